@@ -45,7 +45,8 @@ def sliced(folder: str, count: int) -> Iterator[Way]:
     """Slices of the font as WOFF2, in each way."""
     site, other = f"{folder}/site", f"{folder}/other"
     os.mkdir(other)
-    words = [DEBIAN_PYTHON, FONTCUT_WEB, "slice", SOURCE, "--out", site, "--slices", f"equal:{count}", "--css"]
+    words = [DEBIAN_PYTHON, FONTCUT_WEB, "slice", SOURCE, "--out", site, "--slices", f"equal:{count}", "--lean",
+             "--css"]
     yield Way("`fontcut-web slice`", seconds_of([*words, "--woff2"]), sizes_below(site, ".woff2"))
     ranges = re.findall(r"unicode-range: (.*);", read(f"{site}/fonts.css").decode())
     lines = [[DEBIAN_PYTHON, "-m", "fontTools.subset", SOURCE, f"--unicodes={one.replace(' ', '')}", "--flavor=woff2",

@@ -112,6 +112,20 @@ static void get_room(size_t bytes)
     room = got(room_length + 4);
 }
 
+/* A request for the wanted ranges, with flags. */
+static fontcut_request request_of(fontcut_kind kind, uint32_t flags)
+{
+    return (fontcut_request){sizeof(fontcut_request), kind, FONTCUT_CLOSES | flags, ranges, range_count, NULL, 0};
+}
+
+/* The cut for them in the room: how many bytes it has, or 0 where there is none. */
+static size_t cut_into_room(fontcut_kind kind, uint32_t flags)
+{
+    fontcut_request request = request_of(kind, flags);
+    fontcut_answer answer = fontcut_subset(&request, font, font_length, room, room_length);
+    return answer.status == FONTCUT_DONE ? (size_t)answer.size : 0;
+}
+
 #ifndef NO_HARFBUZZ
 static hb_face_t *face_of_font(void)
 {

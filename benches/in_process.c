@@ -2,7 +2,7 @@
 
        cut     fontcut_subset into a room that is kept, of the full kind
        lean    the same of the lean kind
-       checked fontcut_subset_checked, of a font that was accepted before
+       checked the same with FONTCUT_CHECKED, of a font that was accepted before
        hb      hb_subset_or_fail, and the blob of what it makes; the face and the input are made for each call,
                as a cut begins with the same bytes and ranges each time
        kept    the same of a face that was made once, and made ready by hb_subset_preprocess; the input is made for
@@ -20,27 +20,19 @@
 static size_t cut_length;
 static volatile uint32_t last_sum; /* so that no sum is left out */
 
-static size_t call_subset(fontcut_kind kind)
-{
-    fontcut_answer answer = fontcut_subset(kind, font, font_length, ranges, range_count, room, room_length);
-    return answer.status == FONTCUT_DONE ? (size_t)answer.size : 0;
-}
-
 static size_t call_cut(void)
 {
-    return call_subset(FONTCUT_FULL);
+    return cut_into_room(FONTCUT_FULL, 0);
 }
 
 static size_t call_lean(void)
 {
-    return call_subset(FONTCUT_LEAN);
+    return cut_into_room(FONTCUT_LEAN, 0);
 }
 
 static size_t call_checked(void)
 {
-    fontcut_answer answer =
-        fontcut_subset_checked(FONTCUT_FULL, font, font_length, ranges, range_count, room, room_length);
-    return answer.status == FONTCUT_DONE ? (size_t)answer.size : 0;
+    return cut_into_room(FONTCUT_FULL, FONTCUT_CHECKED);
 }
 
 static size_t call_copy(void)

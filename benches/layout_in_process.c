@@ -1,9 +1,9 @@
 /* Times five ways to the bytes of a layout cut, all in memory and in one process, in turn:
 
        layout  fontcut_subset of the layout kind, into a room that is kept
-       checked fontcut_subset_checked, of a font that was accepted before; each call reads its GSUB
-       cuts    one of the cuts that a call of fontcut_cuts makes: the font is opened once for all of them, which are for
-               the same ranges
+       checked the same with FONTCUT_CHECKED, of a font that was accepted before; each call reads its GSUB
+       cuts    one of the cuts that a call of fontcut_subsets makes: the font is opened once for all of them, which are
+               for the same ranges
        hb      hb_subset_or_fail, and the blob of what it makes, with all features of layout; the face is made for each
                call
        kept    the same of a face that was made once, and made ready by hb_subset_preprocess
@@ -16,38 +16,25 @@
 
 enum { CUTS = 64 };
 
-static fontcut_range *all_ranges; /* those of each cut of `cuts`, one after the other */
-static uint64_t counts[CUTS], sizes[CUTS];
-
-static size_t size_of(fontcut_answer answer)
-{
-    return answer.status == FONTCUT_DONE ? (size_t)answer.size : 0;
-}
+static uint64_t sizes[CUTS];
 
 static size_t call_layout(void)
 {
-    return size_of(fontcut_subset(FONTCUT_LAYOUT, font, font_length, ranges, range_count, room, room_length));
+    return cut_into_room(FONTCUT_LAYOUT, 0);
 }
 
 static size_t call_checked(void)
 {
-    return size_of(fontcut_subset_checked(FONTCUT_LAYOUT, font, font_length, ranges, range_count, room, room_length));
+    return cut_into_room(FONTCUT_LAYOUT, FONTCUT_CHECKED);
 }
 
 static size_t call_cuts(void)
 {
-    return size_of(fontcut_cuts(FONTCUT_LAYOUT, font, font_length, all_ranges, CUTS * range_count, counts, CUTS, room,
-                                room_length, sizes, CUTS));
-}
-
-/* Makes the sets of `cuts`. */
-static void repeat_ranges(void)
-{
-    all_ranges = (fontcut_range *)got((CUTS * range_count + 1) * sizeof ranges[0]);
-    for (int at = 0; at < CUTS; at++) {
-        memcpy(all_ranges + (size_t)at * range_count, ranges, range_count * sizeof ranges[0]);
-        counts[at] = range_count;
-    }
+    fontcut_request requests[CUTS];
+    for (int at = 0; at < CUTS; at++)
+        requests[at] = request_of(FONTCUT_LAYOUT, 0);
+    fontcut_answer answer = fontcut_subsets(requests, CUTS, font, font_length, room, room_length, sizes, CUTS);
+    return answer.status == FONTCUT_DONE ? (size_t)answer.size : 0;
 }
 
 #ifndef NO_HARFBUZZ
@@ -92,7 +79,6 @@ int main(int count, char **words)
         return 1;
     read_font(words[1]);
     read_ranges(words[2]);
-    repeat_ranges();
     get_room(2 * font_length + MORE);
     size_t size = call_layout();
     if (size > room_length / CUTS) {

@@ -1,7 +1,8 @@
 /* Times reading the links of a GSUB, in turn:
 
-       fontcut fontcut_subset_size_checked for no code, of the layout kind: it reads the GSUB, lists its links, follows
-               those from .notdef, and measures a cut, which takes next to nothing where the font is a small one
+       fontcut fontcut_subset with FONTCUT_CHECKED and no room, for no code, of the layout kind: it reads the GSUB,
+               lists its links, follows those from .notdef, and measures a cut, which takes next to nothing where the
+               font is a small one
        lean    the same of the lean kind, which reads no GSUB
        loop    the C loops below, which take the same steps (docs/FORMAT.md, The layout cut, How GSUB is read), count
                the links of each glyph, and list them: two arrays, as fontcut has them
@@ -254,8 +255,9 @@ static size_t call_loop(void)
 
 static size_t call_kind(fontcut_kind kind)
 {
-    fontcut_answer answer = fontcut_subset_size_checked(kind, font, font_length, ranges, 0);
-    return answer.status == FONTCUT_DONE ? (size_t)answer.size : 0;
+    fontcut_request request = request_of(kind, FONTCUT_CHECKED);
+    fontcut_answer answer = fontcut_subset(&request, font, font_length, NULL, 0);
+    return answer.status == FONTCUT_SMALL_ROOM ? (size_t)answer.size : 0;
 }
 
 static size_t call_fontcut(void)

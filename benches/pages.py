@@ -8,7 +8,7 @@ from typing import Iterator, NamedTuple, Optional
 
 from checks import DEJAVU, NOTO, PROGRAM, run, skip
 from cut_sizes import mapped_codes
-from fontcut_needed import needed
+from fontcut import needed
 from fontcut_web import presets
 from measure import DROPPED, HB_SUBSET, Bench, Font, need
 from shaping_texts import TEXTS

@@ -7,7 +7,7 @@ import sys
 from typing import Iterator, NamedTuple, Optional, Sequence
 
 from checks import DEJAVU, FONTCUT_WEB, INTER, LIBERATION, NOTO, PYTHON, put, run, skip
-from fontcut_needed import needed
+from fontcut import needed
 from measure import DEBIAN_PYTHON, HB_SUBSET, VLGOTHIC, need
 from pages import length_of
 from shaping import shaped
@@ -142,7 +142,7 @@ class Sizes:
     def cuts(self, page: Page, font: str, name: str) -> Iterator[tuple[str, int]]:
         """The closed and the exact cut of a font, which is the page's or was made of it. Both shape its lines so."""
         for way, words in ((CLOSED, [page.kind]), (EXACT, [page.kind, "--shaped"])):
-            self.web("text", self.page, font, self.out, *words)
+            self.web("text", self.page, font, self.out, "--as-is", *words)
             need(f"{page.font}, {way}{name}: it shapes the page as the font",
                  shaped(page.path, self.texts, "--shapers=ot") == shaped(self.out, self.texts, "--shapers=ot"))
             yield f"{way}{name}", length_of(self.out).woff2 or 0

@@ -1,6 +1,6 @@
 /* Times two ways of the library that the package for browsers and node has too (web_speed.mjs), in memory and in turn:
 
-       cut     fontcut_subset_checked into a room that is kept, of a font that was accepted before, of the lean kind
+       cut     fontcut_subset with FONTCUT_CHECKED into a room that is kept, of the lean kind
        join    fontcut_join of lean cuts into that room
 
    Words: the font, a file with a line FIRST-LAST in hexadecimal digits for each range of wanted codes, the cuts, the
@@ -13,19 +13,15 @@ enum { MOST_FILES = 100 };
 static fontcut_bytes files[MOST_FILES];
 static size_t file_count;
 
-static size_t size_of(fontcut_answer answer)
-{
-    return answer.status == FONTCUT_DONE ? (size_t)answer.size : 0;
-}
-
 static size_t call_cut(void)
 {
-    return size_of(fontcut_subset_checked(FONTCUT_LEAN, font, font_length, ranges, range_count, room, room_length));
+    return cut_into_room(FONTCUT_LEAN, FONTCUT_CHECKED);
 }
 
 static size_t call_join(void)
 {
-    return size_of(fontcut_join(FONTCUT_LEAN, files, file_count, room, room_length));
+    fontcut_answer answer = fontcut_join(FONTCUT_LEAN, files, file_count, room, room_length);
+    return answer.status == FONTCUT_DONE ? (size_t)answer.size : 0;
 }
 
 static way ways[] = {

@@ -14,7 +14,7 @@ import fontcut
 from checks import DEJAVU, PROGRAM, TOP, put, run, skip
 from cut_sizes import mapped_codes
 from document_texts import document_lines
-from fontcut_needed import needed
+from fontcut import needed
 from join_timing import SOURCE
 from measure import DROPPED, HB_SUBSET, Font, need
 from pages import length_of

@@ -9,14 +9,14 @@ _fontcut_web_options() {
         echo '--languages --scripts --unicodes --pages --features --no-hinting --instance --names --kern --force --json --help'
         ;;
     slice)
-        echo '--out --slices --order --rest --lean --layout --variable --full --drop --woff2 --css --display --strict --force --quiet --json --help'
+        echo '--out --slices --order --rest --lean --layout --variable --full --as-is --drop --woff2 --css --display --strict --force --quiet --json --help'
         ;;
     slices) echo '--font --order --help' ;;
     icons) echo '--out --codepoints --lean --variable --force --json --help' ;;
     site) echo '--anew --check --whole --json --help' ;;
     device) echo '--no-hinting --notdef-outline --map --force --help' ;;
     text)
-        echo '--lean --layout --variable --full --text --shaped --features --check --css --display --strict --force --quiet --json --help'
+        echo '--lean --layout --variable --full --as-is --text --shaped --features --check --css --display --strict --force --quiet --json --help'
         ;;
     *) echo '--lean --layout --variable --full --force --help' ;;
     esac

@@ -22,6 +22,8 @@ LINK = ["-flavor", "wasm", "-mwasm64", "--no-entry", "--stack-first", "-z", "sta
 LOWER = ["--enable-memory64", "--enable-bulk-memory", "--enable-sign-ext", "--enable-nontrapping-float-to-int",
          "--enable-mutable-globals", "--memory64-lowering"]
 TABLE, ELEMENTS = 4, 9  # sections of a WebAssembly module
+# The calls whose tables of Unicode would make the module larger by half: bindings/web/needed.js does what they do.
+LEFT_OUT = "fontcut_needed", "fontcut_ranges"
 
 
 def for_wasm(text: str) -> str:
@@ -38,6 +40,15 @@ def for_wasm(text: str) -> str:
             raise Failed(f"find in the module: {old}")
         text = text.replace(old, new)
     return ATTRIBUTES.sub("", text)
+
+
+def without_calls(text: str) -> str:
+    """A module of LLVM as text, in which the calls that are left out are of the module alone, so that it needs none."""
+    for name in LEFT_OUT:
+        text, count = re.subn(rf"^define (?=[^\n]*@{name}\()", "define internal ", text, flags=re.M)
+        if count != 1:
+            raise Failed(f"find the call {name} in the module")
+    return text
 
 
 def number_at(data: bytes, at: int) -> tuple[int, int]:
@@ -75,7 +86,7 @@ def web_module(kit: str, room: str, native: str) -> bytes:
     run([f"{tools}/clang", f"--target={NATIVE}", "-x", "ir", native, "-S", "-emit-llvm", "-O0", "-Xclang",
          "-disable-llvm-passes", "-o", paths["native.ll"]])
     with open(paths["native.ll"], encoding="utf-8") as text:
-        put(paths["wasm.ll"], for_wasm(text.read()))
+        put(paths["wasm.ll"], without_calls(for_wasm(text.read())))
     run([f"{tools}/clang", *CLANG, "-c", "-x", "ir", paths["wasm.ll"], "-o", paths["module.o"]])
     run([f"{tools}/clang", *CLANG, "-ffreestanding", "-nostdinc", "-Wall", "-Wextra", "-Werror", "-c",
          os.path.join(TOP, "bindings", "web", "heap.c"), "-o", paths["heap.o"]])

@@ -22,7 +22,7 @@ HERE = os.path.dirname(os.path.abspath(__file__))
 # A module of one file cannot say that it has types (PEP 561), so it becomes a package in the wheel. The commands of the
 # wheel are a module of it, which finds what these need, or says what to install.
 MODULE, COMMANDS = "fontcut", "wheel_commands"
-SHARED = "fontcut_needed", "fontcut_output"
+SHARED = ("fontcut_output",)
 PACKAGES = "fontcut_pdf", "fontcut_web"
 # Data of a package: presets of slices.
 LISTS = "fontcut_web/lists"

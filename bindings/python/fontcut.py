@@ -38,8 +38,7 @@ MVAR, STAT and VVAR, and gvar for its glyphs. Variable cuts join with variable c
 by 5 or 6 for one of these tables, and by 28 if gvar cannot be read.
 
 `kind` is the kind of a cut: `"full"` (the default), `"lean"`, `"layout"` or `"variable"`. Without a kind `belongs` asks
-for a cut of any kind, and `join` joins full cuts, as the program does. `lean=True` is the old word for
-`kind="lean"`: it is deprecated, and the next version removes it.
+for a cut of any kind, and `join` joins full cuts, as the program does.
 
 `gids` asks for glyphs by their numbers, beside characters or without any: `[43, 72]`, `range(3, 9)`, what `glyphs` or a
 shaper returns, or `"all"`. They are for lean, layout and variable cuts. `fontcut.ranges("all")` with `gids="all"` asks
@@ -56,6 +55,7 @@ are safe on all bytes, keep no state, and let other threads run while they work.
 """
 from __future__ import annotations
 
+import bisect
 import contextlib
 import ctypes
 import functools
@@ -70,12 +70,9 @@ from mmap import mmap
 from typing import (TYPE_CHECKING, Callable, Iterable, Iterator, List, Literal, NamedTuple, Optional, Sequence, Tuple,
                     Union, cast)
 
-from fontcut_needed import joining
-from fontcut_needed import needed as needed
-
 __all__ = ["Font", "FontcutError", "FontcutWarning", "Form", "Info", "LibraryMissing", "NoGlyph", "Range", "Refused",
            "advances", "belongs", "check", "closure", "codes", "cut", "cut_size", "form", "glyphs", "info", "is_cut",
-           "is_cut_of", "join", "kept_glyphs", "metrics", "missing", "needed", "ranges", "slices", "unshaped"]
+           "join", "kept_glyphs", "metrics", "missing", "needed", "ranges", "slices", "unshaped"]
 
 __version__ = "0.11.0"
 
@@ -84,14 +81,18 @@ Codes = Union[str, Iterable[Union[int, Tuple[int, int]]]]
 Gids = Union[Literal["all"], Iterable[int]]
 
 # Written by tools/write_refusals from include/refusals.txt:
-_NO_MEMORY, _TOO_LARGE, _NOTHING_TO_JOIN = 16, 18, 24
+_NO_MEMORY, _TOO_LARGE, _NOT_A_CUT, _NOTHING_TO_JOIN = 16, 18, 20, 24
 _OF_TAGS, _OF_NUMBERS = (5, 6, 7, 21, 29), (12, 15, 17, 22, 23)
 # End of what tools/write_refusals writes.
-_SMALL_ROOM, _NO_GLYPH, _NO_NUMBERS = 100, 102, 104
+_SMALL_ROOM, _NO_GLYPH, _NO_NUMBERS, _BAD_TEXT = 100, 102, 104, 106
+_CLOSES, _CHECKED = 1, 2  # the flags of a request
 _LAST_CODE, _MOST_GLYPHS = 0x10FFFF, 0xFFFF
+_JOINERS = 0x200C, 0x200D
+# How many code points are looked up in a font one by one.
+_FEW_CODES = 4096
 _KINDS = {"full": 0, "lean": 1, "layout": 2, "variable": 3}
-# The kinds whose cuts keep GSUB.
-_WITH_LINKS = (_KINDS["layout"], _KINDS["variable"])
+# The kinds whose cuts keep GSUB, so that their text is shaped.
+_SHAPED = (_KINDS["layout"], _KINDS["variable"])
 
 
 class Range(NamedTuple):
@@ -171,16 +172,17 @@ class Refused(FontcutError):
               does
     """
 
-    def __init__(self, number: int, text: str, argument: Union[None, int, str], file: Optional[int]):
-        super().__init__(text if file is None else f"file {file + 1}: {text}")
+    def __init__(self, number: int, text: str, argument: Union[None, int, str], file: Optional[int], hint: str = ""):
+        super().__init__((text if file is None else f"file {file + 1}: {text}") + hint)
         self.number = number
         self.text = text
         self.argument = argument
         self.file = file
+        self._hint = hint  # what the message ends with
 
-    def __reduce__(self) -> Tuple[type, Tuple[int, str, Union[None, int, str], Optional[int]]]:
+    def __reduce__(self) -> Tuple[type, Tuple[int, str, Union[None, int, str], Optional[int], str]]:
         """So that a pool of processes can hand it on."""
-        return type(self), (self.number, self.text, self.argument, self.file)
+        return type(self), (self.number, self.text, self.argument, self.file, self._hint)
 
 
 class _Range(ctypes.Structure):
@@ -191,6 +193,15 @@ class _Range(ctypes.Structure):
 
 class _Bytes(ctypes.Structure):
     _fields_ = [("at", ctypes.c_void_p), ("length", ctypes.c_size_t)]
+
+
+class _Request(ctypes.Structure):
+    """A request, which keeps what it points to."""
+
+    glyph_count: int
+    _fields_ = [("struct_size", ctypes.c_size_t), ("kind", ctypes.c_uint32), ("flags", ctypes.c_uint32),
+                ("ranges", ctypes.POINTER(_Range)), ("range_count", ctypes.c_size_t),
+                ("glyphs", ctypes.POINTER(ctypes.c_uint16)), ("glyph_count", ctypes.c_size_t)]
 
 
 class _Answer(ctypes.Structure):
@@ -217,25 +228,15 @@ if TYPE_CHECKING:
     _Room = ctypes.Array[ctypes.c_char]  # Python 3.8 cannot evaluate it
 _Writing = Callable[["_Room", int], _Answer]
 
-_FILE = [ctypes.c_void_p, ctypes.c_size_t]
-_RANGES = [ctypes.POINTER(_Range), ctypes.c_size_t]
-_LIST = [ctypes.c_void_p, ctypes.c_size_t]
-_ROOM = [ctypes.c_void_p, ctypes.c_size_t]
-_KIND = [ctypes.c_uint32]
-_CALLS = {"check": _FILE, "subset_size": _KIND + _FILE + _RANGES, "subset": _KIND + _FILE + _RANGES + _ROOM,
-          "cuts": _KIND + _FILE + _RANGES + _LIST + _ROOM + _LIST, "cut_form": _KIND + _FILE,
-          "belongs": _KIND + _FILE + _FILE,
-          "join": [ctypes.c_uint32, ctypes.POINTER(_Bytes), ctypes.c_size_t] + _ROOM, "codes": _FILE + _RANGES,
-          "subset_glyphs_size": _KIND + _FILE + _RANGES + _LIST,
-          "subset_glyphs": _KIND + _FILE + _RANGES + _LIST + _ROOM,
-          "cuts_glyphs": _KIND + _FILE + _RANGES + _LIST + _LIST + _LIST + _ROOM + _LIST,
-          "closure": _KIND + _FILE + _RANGES + _LIST + _ROOM, "kept": _KIND + _FILE + _ROOM,
-          "glyphs": _FILE + _LIST + _ROOM, "metrics": _FILE + _LIST + _ROOM,
-          "subset_size_checked": _KIND + _FILE + _RANGES, "subset_checked": _KIND + _FILE + _RANGES + _ROOM,
-          "subset_glyphs_size_checked": _KIND + _FILE + _RANGES + _LIST,
-          "subset_glyphs_checked": _KIND + _FILE + _RANGES + _LIST + _ROOM,
-          "glyphs_checked": _FILE + _LIST + _ROOM, "metrics_checked": _FILE + _LIST + _ROOM,
-          "info": _FILE + [ctypes.POINTER(_Info)],
+_FILE = _LIST = _ROOM = [ctypes.c_void_p, ctypes.c_size_t]
+_RANGES, _REQUEST = [ctypes.POINTER(_Range), ctypes.c_size_t], [ctypes.POINTER(_Request)]
+_KIND = _FLAGS = [ctypes.c_uint32]
+_CALLS = {"check": _FILE, "subset": _REQUEST + _FILE + _ROOM,
+          "subsets": _REQUEST + [ctypes.c_size_t] + _FILE + _ROOM + _LIST, "closure": _REQUEST + _FILE + _ROOM,
+          "kept": _KIND + _FILE + _ROOM, "cut_form": _KIND + _FILE, "belongs": _KIND + _FILE + _FILE,
+          "join": _KIND + [ctypes.POINTER(_Bytes), ctypes.c_size_t] + _ROOM, "codes": _FILE + _RANGES,
+          "glyphs": _FLAGS + _FILE + _LIST + _ROOM, "metrics": _FLAGS + _FILE + _LIST + _ROOM,
+          "info": _FILE + [ctypes.POINTER(_Info)], "needed": _LIST + _RANGES, "ranges": _LIST + _RANGES,
           "refusal_text": [_Answer] + _ROOM}
 
 
@@ -269,10 +270,11 @@ def _library() -> ctypes.CDLL:
 
 
 class _File:
-    """The bytes of a file where they stand, without a copy where the object allows that; and whether it is tested."""
+    """The bytes of a file where they stand, without a copy where the object allows that; and the flag of one that was
+    tested before."""
 
     def __init__(self, data: Union[Bytes, Font]):
-        self.is_tested = isinstance(data, Font)
+        self.flags = _CHECKED if isinstance(data, Font) else 0
         if isinstance(data, Font):
             data = data.data
         if isinstance(data, (str, os.PathLike)):
@@ -322,13 +324,19 @@ def _number(one: object, place: int, what: str) -> int:
     return operator.index(one)
 
 
+def _utf8(text: str) -> bytes:
+    """A text as the library takes it."""
+    try:
+        return text.encode()
+    except UnicodeEncodeError as error:
+        code = ord(text[error.start])
+        raise ValueError(f"item {error.start} is the lone surrogate U+{code:04X}, which is no character") from None
+
+
 def _characters(text: str) -> List[int]:
     """The code points of a text, in its order."""
-    codes = [ord(character) for character in text]
-    for place, code in enumerate(codes):
-        if 0xD800 <= code <= 0xDFFF:
-            raise ValueError(f"item {place} is the lone surrogate U+{code:04X}, which is no character")
-    return codes
+    _utf8(text)
+    return [ord(character) for character in text]
 
 
 def _items(given: object, what: str) -> Iterable[object]:
@@ -390,9 +398,7 @@ def _wanted(wanted: Codes, kind: int = 0, exactly: bool = True) -> List[Range]:
     """What is wanted for a cut of a kind. A text that will be shaped brings what a shaper takes for it, unless it is
     wanted exactly."""
     ranges = _ranges(wanted)
-    if exactly or kind not in _WITH_LINKS or not isinstance(wanted, str):
-        return ranges
-    return _ranges(list(map(ord, needed(wanted))))
+    return ranges if exactly or kind not in _SHAPED or not isinstance(wanted, str) else _needed(wanted)
 
 
 def _numbers(given: object, what: str) -> List[int]:
@@ -432,20 +438,24 @@ def _gids_of_sets(font: Union[Bytes, Font], given: Optional[Iterable[Optional[Gi
     return lists
 
 
-def _in_c(ranges: Sequence[Range]) -> ctypes.Array[_Range]:
-    return (_Range * max(1, len(ranges)))(*[_Range(*one) for one in ranges])
-
-
 def _glyphs_in_c(numbers: Sequence[int]) -> ctypes.Array[ctypes.c_uint16]:
     # A font has 65,535 glyphs at most, so that the last of 16 bits stands for all numbers that are none of any font.
     known = [one if 0 <= one < _MOST_GLYPHS else _MOST_GLYPHS for one in numbers]
     return (ctypes.c_uint16 * max(1, len(numbers)))(*known)
 
 
-def _taken(answer: _Answer, numbers: Sequence[int], before: int = 0) -> _Answer:
-    """The answer of a call that was given glyph numbers, and so many before these; raises if it does not take them."""
+def _request(file: _File, kind: int, ranges: Sequence[Range], numbers: Sequence[int], closes: bool = False) -> _Request:
+    """The request for what is wanted of a font."""
+    in_c = (_Range * max(1, len(ranges)))(*[_Range(*one) for one in ranges])
+    return _Request(ctypes.sizeof(_Request), kind, file.flags | _CLOSES * closes, in_c, len(ranges),
+                    _glyphs_in_c(numbers), len(numbers))
+
+
+def _taken(answer: _Answer, *lists: Sequence[int]) -> _Answer:
+    """The answer of a call that was given glyph numbers, by each of its requests; raises if it does not take them."""
     if answer.status == _NO_GLYPH:
-        raise NoGlyph(before + answer.detail, numbers[answer.detail])
+        before = sum(map(len, lists[:answer.step]))
+        raise NoGlyph(before + answer.detail, lists[answer.step][answer.detail])
     if answer.status == _NO_NUMBERS:
         raise ValueError("full cuts are for characters alone: lean, layout and variable cuts take gids")
     return answer
@@ -458,9 +468,8 @@ def check(font: Bytes) -> None:
 
 
 class Font:
-    """An accepted font, which is tested once. `cut`, `cut_size`, `glyphs`, `metrics` and the calls that use them take
-    it instead of the bytes, and do not test it again. Every other call takes it too. `closure` tests it, and so do
-    layout and variable cuts with `gids` that are not exact.
+    """An accepted font, which is tested once. `cut`, `cut_size`, `slices`, `closure`, `glyphs`, `metrics` and the calls
+    that use them take it instead of the bytes, and do not test it again. Every other call takes it too.
 
     `data` has its bytes: those that were given, or a copy if these could change. Raises `Refused`."""
 
@@ -476,55 +485,20 @@ class Font:
         return self._data
 
 
-def _call(name: str, file: _File) -> Callable[..., _Answer]:
-    """A call of the library, or that of its name for a font which was tested before."""
-    call = getattr(_library(), f"fontcut_{name}_checked" if file.is_tested else f"fontcut_{name}")
-    return cast(Callable[..., _Answer], call)
-
-
-def _kind(kind: Optional[str], lean: bool) -> int:
-    """The number of a kind, for which `lean` is an old word."""
-    if lean:
-        warnings.warn('lean=True is deprecated: write kind="lean"', DeprecationWarning, stacklevel=3)
-        if kind not in (None, "lean"):
-            raise ValueError(f"lean=True and kind={kind!r} are two kinds of cuts")
+def _kind(kind: Optional[str]) -> int:
+    """The number of a kind, which is that of full cuts if none is named."""
     if kind is None:
-        kind = "lean" if lean else "full"
+        kind = "full"
     if kind not in _KINDS:
         raise ValueError(f"{kind!r} is no kind of cuts: it is full, lean, layout or variable")
     return _KINDS[kind]
 
 
-def _closed(file: _File, kind: int, ranges: Sequence[Range], numbers: Sequence[int], before: int = 0) -> List[int]:
-    """The closure of what is wanted of a font, where so many numbers stand before these in all that were given."""
+def _closed(file: _File, kind: int, ranges: Sequence[Range], numbers: Sequence[int]) -> List[int]:
+    """The closure of what is wanted of a font."""
     out = (ctypes.c_uint16 * _MOST_GLYPHS)()
-    answer = _library().fontcut_closure(kind, file.at, file.length, _in_c(ranges), len(ranges), _glyphs_in_c(numbers),
-                                        len(numbers), out, len(out))
-    return out[:_done(_taken(answer, numbers, before)).size]
-
-
-def _exact(file: _File, kind: int, wanted: Sequence[Sequence[Range]], numbers: Sequence[Sequence[int]],
-           closes: bool) -> Optional[Sequence[Sequence[int]]]:
-    """The glyphs of which exact cuts for sets are made; or None for sets of characters alone whose cuts are closed, for
-    which the library has calls."""
-    if closes and not any(numbers):
-        return None
-    if not closes or kind not in _WITH_LINKS:
-        return numbers
-    before = itertools.accumulate(map(len, numbers), initial=0)
-    return [_closed(file, kind, *one) for one in zip(wanted, numbers, before)]
-
-
-def _cutting(ending: str, file: _File, kind: int, ranges: Sequence[Range], numbers: Sequence[int],
-             closes: bool) -> Callable[..., _Answer]:
-    """The call whose name has this ending and which cuts a font for what is wanted, but for its room."""
-    exact, given = _exact(file, kind, [ranges], [numbers], closes), _in_c(ranges)
-    if exact is None:
-        plain = _call(f"subset{ending}", file)
-        return lambda *room: plain(kind, file.at, file.length, given, len(ranges), *room)
-    asked, call = exact[0], _call(f"subset_glyphs{ending}", file)
-    glyphs = _glyphs_in_c(asked)
-    return lambda *room: _taken(call(kind, file.at, file.length, given, len(ranges), glyphs, len(asked), *room), asked)
+    answer = _library().fontcut_closure(_request(file, kind, ranges, numbers), file.at, file.length, out, len(out))
+    return out[:_done(_taken(answer, numbers)).size]
 
 
 def _is_substituted(file: _File, ranges: Sequence[Range]) -> bool:
@@ -534,33 +508,48 @@ def _is_substituted(file: _File, ranges: Sequence[Range]) -> bool:
     return False
 
 
-def _unshaped(font: Union[Bytes, Font], kind: int, ranges: Iterable[Range]) -> Optional[str]:
+def joining(codes: Sequence[int]) -> Iterator[int]:
+    """Those of some code points that joiners are used with, as letters are that join or change places: a text of them
+    needs joiners."""
+    text = " ".join(chr(code) for code in codes if code not in _JOINERS and not 0xD800 <= code <= 0xDFFF)
+    if not any(first <= _JOINERS[0] <= last for first, last in _needed(text)):
+        return
+    half = len(codes) // 2
+    for some in (codes[:half], codes[half:]) if half else ():
+        yield from joining(some)
+    if not half:
+        yield from codes
+
+
+def _mapped(font: Union[Bytes, Font], ranges: Sequence[Range]) -> List[int]:
+    """The code points of ranges that a font maps."""
+    if sum(last - first + 1 for first, last in ranges) > _FEW_CODES:
+        lasts = [last for _, last in ranges]
+        every = (code for first, last in codes(font) for code in range(first, last + 1) if code <= lasts[-1])
+        return [code for code in every if ranges[bisect.bisect_left(lasts, code)].first <= code]
+    few = [code for first, last in ranges for code in range(first, last + 1)]
+    return [code for code, glyph in zip(few, glyphs(font, few)) if glyph]
+
+
+def _unshaped(font: Union[Bytes, Font], kind: int, ranges: Sequence[Range]) -> Optional[str]:
     """The first character of some ranges that a cut of a kind does not shape, and its font does."""
-    joined = [] if kind in _WITH_LINKS else [Range(*pair) for pair in joining(ranges)]
+    found = [] if kind in _SHAPED else list(joining(_mapped(font, ranges)))
     file = _File(font)
-    if not joined or not _is_substituted(file, joined):
+    if not found or not _is_substituted(file, [Range(code, code) for code in found]):
         return None
-    letters = list(itertools.islice(_letters(font, joined), 16))
-    found = (code for code in letters if _is_substituted(file, [Range(code, code)]))
-    return chr(next(found, letters[0] if letters else joined[0].first))
-
-
-def _letters(font: Union[Bytes, Font], ranges: Iterable[Range]) -> Iterator[int]:
-    """The letters of ranges that a font maps."""
-    codes = (code for first, last in ranges for code in range(first, last + 1)
-             if unicodedata.category(chr(code)).startswith("L"))
-    for block in iter(lambda: list(itertools.islice(codes, 256)), []):
-        yield from (code for code, glyph in zip(block, glyphs(font, block)) if glyph)
+    letters = [code for code in found if unicodedata.category(chr(code)).startswith("L")][:16]
+    shaped = (code for code in letters if _is_substituted(file, [Range(code, code)]))
+    return chr(next(shaped, (letters or found)[0]))
 
 
 def unshaped(font: Union[Bytes, Font], wanted: Codes, *, kind: str = "lean") -> Optional[str]:
     """The first of some characters that a font shapes, and its cut of a kind does not, or None: a letter that joins
     with others or changes its place by GSUB, which full and lean cuts drop. Letters of scripts that are shaped by GPOS
     alone, as Thai and Hebrew are, do not count. Raises `Refused`."""
-    return _unshaped(font, _kind(kind, False), _ranges(wanted))
+    return _unshaped(font, _kind(kind), _ranges(wanted))
 
 
-def _warn_unshaped(font: Union[Bytes, Font], kind: int, ranges: Iterable[Range]) -> None:
+def _warn_unshaped(font: Union[Bytes, Font], kind: int, ranges: Sequence[Range]) -> None:
     """Warns the caller of `cut` or `slices` of a character that the cut does not shape. Out of memory, it does not."""
     letter = None
     with contextlib.suppress(MemoryError):
@@ -576,15 +565,17 @@ def script_of(letter: str) -> str:
     return unicodedata.name(letter, f"U+{ord(letter):04X}").partition(" LETTER ")[0].title()
 
 
-def cut_size(font: Union[Bytes, Font], wanted: Codes, *, lean: bool = False, kind: Optional[str] = None,
+def cut_size(font: Union[Bytes, Font], wanted: Codes, *, kind: Optional[str] = None,
              gids: Optional[Gids] = None, layout_closure: bool = True, exactly: bool = False) -> int:
     """The length in bytes of the cut that `cut` makes. The cut is not made. Raises what `cut` raises."""
-    file, number = _File(font), _kind(kind, lean)
-    ranges = _wanted(wanted, number, exactly)
-    return _done(_cutting("_size", file, number, ranges, _gids(font, gids), layout_closure)()).size
+    file, number = _File(font), _kind(kind)
+    ranges, numbers = _wanted(wanted, number, exactly), _gids(font, gids)
+    asked = _request(file, number, ranges, numbers, layout_closure)
+    answer = _taken(_library().fontcut_subset(asked, file.at, file.length, None, 0), numbers)
+    return answer.size if answer.status == _SMALL_ROOM else _done(answer).size
 
 
-def cut(font: Union[Bytes, Font], wanted: Codes, *, lean: bool = False, kind: Optional[str] = None,
+def cut(font: Union[Bytes, Font], wanted: Codes, *, kind: Optional[str] = None,
         gids: Optional[Gids] = None, layout_closure: bool = True, exactly: bool = False) -> bytes:
     """The cut of a font for the wanted characters and for the glyphs with the numbers `gids`, of a kind. Characters
     that the font does not map are ignored. A full cut is for characters alone.
@@ -601,9 +592,11 @@ def cut(font: Union[Bytes, Font], wanted: Codes, *, lean: bool = False, kind: Op
 
     Raises `Refused` if the font is refused or the cut would be too large; `NoGlyph` if the font has no glyph of one of
     the numbers; `ValueError` for what is not a range, and for a full cut with `gids`."""
-    file, number = _File(font), _kind(kind, lean)
+    file, number = _File(font), _kind(kind)
     ranges, numbers = _wanted(wanted, number, exactly), _gids(font, gids)
-    data = _written(file.length + 4096, _cutting("", file, number, ranges, numbers, layout_closure))
+    asked, library = _request(file, number, ranges, numbers, layout_closure), _library()
+    data = _written(file.length + 4096, lambda *room: _taken(
+        library.fontcut_subset(asked, file.at, file.length, *room), numbers))
     if gids is None:
         _warn_unshaped(font, number, ranges)
     return data
@@ -612,13 +605,13 @@ def cut(font: Union[Bytes, Font], wanted: Codes, *, lean: bool = False, kind: Op
 def closure(font: Union[Bytes, Font], wanted: Codes, gids: Gids = (), *, kind: str = "layout",
             exactly: bool = False) -> List[int]:
     """The glyphs that a shaper may put for text of the wanted characters and glyphs, ascending: .notdef, the glyphs of
-    the characters, those of `gids`, and what GSUB leads to from these. Full and lean cuts have no GSUB to follow. A
-    `str` means the characters that it means for `cut`.
+    the characters, those of `gids`, and what GSUB leads to from these. Full and lean cuts have no GSUB to follow, and
+    full cuts take no `gids`. A `str` means the characters that it means for `cut`.
 
     These as `gids`, with the same characters, make the cut that `cut` makes with `layout_closure`: it has every glyph
     to which GSUB leads from these characters. A `str` brings the characters that its text needs; list them otherwise.
     Raises `Refused` and `NoGlyph`, as `cut` does."""
-    number = _kind(kind, False)
+    number = _kind(kind)
     return _closed(_File(font), number, _wanted(wanted, number, exactly), _gids(font, gids))
 
 
@@ -627,70 +620,67 @@ def kept_glyphs(font: Union[Bytes, Font], *, kind: str = "full") -> List[int]:
     full cuts those that have an outline, metrics or variation data, and the components of all these. A lean, layout or
     variable cut is the exact cut of its font for these and for its `codes`. Raises `Refused`."""
     file, out = _File(font), (ctypes.c_uint16 * _MOST_GLYPHS)()
-    answer = _library().fontcut_kept(_kind(kind, False), file.at, file.length, out, len(out))
+    answer = _library().fontcut_kept(_kind(kind), file.at, file.length, out, len(out))
     return out[:_done(answer).size]
 
 
-def join(cuts: Sequence[Bytes], *, lean: bool = False, kind: Optional[str] = None) -> bytes:
+def _join_hint(file: Bytes) -> str:
+    """What is said where a file that is joined as a full cut is a cut of another kind."""
+    found = form(file).name.lower()
+    return f"; {found} cuts are joined with kind={found!r}" if found in _KINDS else ""
+
+
+def join(cuts: Sequence[Bytes], *, kind: Optional[str] = None) -> bytes:
     """The join of cuts of one font, of a kind: the cut of that font for the characters and the glyphs of all of them,
     whatever their order is. Full cuts are joined if no kind is named.
 
-    Raises `Refused`, with the index of the file, if one is not a cut, or not a cut of the same font as those before."""
-    files, number = [_File(one) for one in cuts], _kind(kind, lean)
+    Raises `Refused`, with the index of the file, if one is not a cut, or not a cut of the same font as those before. If
+    no kind is named and it is a cut of another one, the message names that."""
+    files, number = [_File(one) for one in cuts], _kind(kind)
     given = (_Bytes * max(1, len(files)))(*[_Bytes(one.at, one.length) for one in files])
 
     def made(room: _Room, size: int) -> _Answer:
         return cast(_Answer, _library().fontcut_join(number, given, len(files), room, size))
 
-    return _written(sum(one.length for one in files) + 4096, made, several=True)
+    try:
+        return _written(sum(one.length for one in files) + 4096, made, several=True)
+    except Refused as refused:
+        if kind is not None or refused.number != _NOT_A_CUT or refused.file is None:
+            raise
+        hint = _join_hint(cuts[refused.file])
+        raise Refused(refused.number, refused.text, refused.argument, refused.file, hint) from None
 
 
-def _counts_in_c(lists: Sequence[Sequence[object]]) -> ctypes.Array[ctypes.c_uint64]:
-    return (ctypes.c_uint64 * max(1, len(lists)))(*map(len, lists))
-
-
-def _cutting_sets(file: _File, kind: int, wanted: Sequence[Sequence[Range]],
-                  exact: Optional[Sequence[Sequence[int]]]) -> Callable[..., _Answer]:
-    """The call that cuts a font for many sets, but for its room."""
-    ranges, count, counts = [one for each in wanted for one in each], len(wanted), _counts_in_c(wanted)
-    given, library = _in_c(ranges), _library()
-    if exact is None:
-        return lambda *room: cast(_Answer, library.fontcut_cuts(
-            kind, file.at, file.length, given, len(ranges), counts, count, *room))
-    numbers, glyph_counts = [one for each in exact for one in each], _counts_in_c(exact)
-    glyphs = _glyphs_in_c(numbers)
-    return lambda *room: _taken(library.fontcut_cuts_glyphs(
-        kind, file.at, file.length, given, len(ranges), counts, count, glyphs, len(numbers), glyph_counts, count,
-        *room), numbers)
-
-
-def slices(font: Union[Bytes, Font], sets: Iterable[Codes], *, lean: bool = False, kind: Optional[str] = None,
+def slices(font: Union[Bytes, Font], sets: Iterable[Codes], *, kind: Optional[str] = None,
            gids: Optional[Iterable[Optional[Gids]]] = None, layout_closure: bool = True,
            exactly: bool = False) -> List[bytes]:
     """The cuts of a font for many sets of wanted characters, of a kind: what `cut` makes for each set, in the order of
     the sets. `gids` has the wanted glyphs of each set, in the same order, or None for a set that has none. The font is
-    tested once for all of them; layout and variable cuts with `gids` that are not exact test it once more for each set.
+    tested once for all of them.
 
     Raises what `cut` raises."""
     if isinstance(sets, str):
         raise TypeError("sets are given as a list of them, and not as one str")
-    file, number = _File(font), _kind(kind, lean)
+    file, number = _File(font), _kind(kind)
     one_wanted = functools.partial(_wanted, kind=number, exactly=exactly)
     wanted = list(map(one_wanted, _items(sets, "set")))
     lists = _gids_of_sets(font, gids, len(wanted))
-    room_for_sizes = ctypes.c_uint64 * max(1, len(wanted))
-    sizes = room_for_sizes()
-    call = _cutting_sets(file, number, wanted, _exact(file, number, wanted, lists, layout_closure))
+    if not wanted:
+        _done(_library().fontcut_check(file.at, file.length))
+        return []
+    requests = (_Request * len(wanted))(*(_request(file, number, *one, layout_closure) for one in zip(wanted, lists)))
+    sizes, library = (ctypes.c_uint64 * len(wanted))(), _library()
 
     def made(room: _Room, size: int) -> _Answer:
-        return call(room, size, sizes, len(wanted))
+        return _taken(library.fontcut_subsets(requests, len(wanted), file.at, file.length, room, size, sizes,
+                                              len(wanted)), *lists)
 
     # A guess would seldom serve: each cut repeats the tables that it copies, and the font alone says how long they are.
     # So the first call has no room. It measures the cuts, and the second one has room for just all of them.
     out, _ = _filled(0, made)
     if gids is None:
-        _warn_unshaped(font, number, itertools.chain.from_iterable(wanted))
-    ends = itertools.accumulate(sizes[:len(wanted)])
+        _warn_unshaped(font, number, _ranges(itertools.chain.from_iterable(wanted)))
+    ends = itertools.accumulate(sizes)
     return [ctypes.string_at(ctypes.byref(out, end - size), size) for end, size in zip(ends, sizes)]
 
 
@@ -733,9 +723,9 @@ def form(font: Bytes) -> Form:
     return next(kinds, found)
 
 
-def is_cut(font: Bytes, *, lean: bool = False, kind: Optional[str] = None) -> bool:
+def is_cut(font: Bytes, *, kind: Optional[str] = None) -> bool:
     """Whether a font is a cut of a kind, in the current form. A lean cut for characters alone is a full cut too."""
-    return _form(font, _kind(kind, lean)) is Form.CURRENT
+    return _form(font, _kind(kind)) is Form.CURRENT
 
 
 def _belongs(cut: _File, font: _File, kind: int) -> bool:
@@ -751,33 +741,31 @@ def _belongs_if_accepted(cut: _File, font: _File, kind: int) -> bool:
     return False
 
 
-def belongs(cut: Bytes, font: Union[Bytes, Font], *, lean: bool = False, kind: Optional[str] = None) -> bool:
+def belongs(cut: Bytes, font: Union[Bytes, Font], *, kind: Optional[str] = None) -> bool:
     """Whether a file is a cut of a font for some characters and glyphs, of a kind, or of any if none is named. A full
     cut may be in either form. Raises `Refused` if one of the two is refused: file 0 is the cut, and file 1 the font."""
     first, second = _File(cut), _File(font)
-    if kind is not None or lean:
-        return _belongs(first, second, _kind(kind, lean))
+    if kind is not None:
+        return _belongs(first, second, _kind(kind))
     others = (number for number in _KINDS.values() if number != _KINDS["full"])
     return _belongs(first, second, _KINDS["full"]) or any(
         _belongs_if_accepted(first, second, number) for number in others)
 
 
-def is_cut_of(cut: Bytes, font: Bytes) -> bool:
-    """The old name of `belongs` for full cuts, which the next version removes."""
-    warnings.warn('is_cut_of is deprecated: call belongs with kind="full"', DeprecationWarning, stacklevel=2)
-    return belongs(cut, font, kind="full")
+def _ranges_of(call: Callable[..., _Answer]) -> List[Range]:
+    """The ranges that a call writes."""
+    out = (_Range * 256)()
+    answer = call(out, len(out))
+    if answer.status == _SMALL_ROOM:
+        out = (_Range * answer.size)()
+        answer = call(out, len(out))
+    return [Range(one.first, one.last) for one in out[:_done(answer).size]]
 
 
 def codes(font: Union[Bytes, Font]) -> List[Range]:
     """The code points that a font maps, as the fewest ranges, in ascending order."""
-    file, room = _File(font), 1024
-    out = (_Range * room)()
-    answer = _library().fontcut_codes(file.at, file.length, out, room)
-    if answer.status == _SMALL_ROOM:
-        room = answer.size
-        out = (_Range * room)()
-        answer = _library().fontcut_codes(file.at, file.length, out, room)
-    return [Range(one.first, one.last) for one in out[:_done(answer).size]]
+    file = _File(font)
+    return _ranges_of(lambda *room: cast(_Answer, _library().fontcut_codes(file.at, file.length, *room)))
 
 
 def glyphs(font: Union[Bytes, Font], wanted: Union[str, Iterable[int]]) -> List[int]:
@@ -787,7 +775,7 @@ def glyphs(font: Union[Bytes, Font], wanted: Union[str, Iterable[int]]) -> List[
     numbers = _characters(wanted) if isinstance(wanted, str) else _code_points(wanted)
     count = len(numbers)
     given, out = (ctypes.c_uint32 * max(1, count))(*numbers), (ctypes.c_uint16 * max(1, count))()
-    _done(_call("glyphs", file)(file.at, file.length, given, count, out, count))
+    _done(_library().fontcut_glyphs(file.flags, file.at, file.length, given, count, out, count))
     return out[:count]
 
 
@@ -798,7 +786,7 @@ def metrics(font: Union[Bytes, Font], glyphs: Iterable[int]) -> List[Tuple[int, 
     file, numbers = _File(font), _numbers(glyphs, "glyph")
     count = len(numbers)
     out = (_Metric * max(1, count))()
-    answer = _call("metrics", file)(file.at, file.length, _glyphs_in_c(numbers), count, out, count)
+    answer = _library().fontcut_metrics(file.flags, file.at, file.length, _glyphs_in_c(numbers), count, out, count)
     _done(_taken(answer, numbers))
     return [(one.advance, one.bearing) for one in out[:count]]
 
@@ -821,40 +809,21 @@ def missing(font: Union[Bytes, Font], text: Codes) -> List[int]:
     return [code for code, glyph in zip(wanted, glyphs(font, wanted)) if glyph == 0]
 
 
-# One code or two with a hyphen between them; and digits of which the last ones are question marks.
-_SPAN = re.compile(r"(?:[Uu]\+)?([0-9A-Fa-f]{1,6})(?:-(?:[Uu]\+)?([0-9A-Fa-f]{1,6}))?")
-_WILDCARD = re.compile(r"(?:[Uu]\+)?(?=.{1,6}$)([0-9A-Fa-f]*)(\?+)")
-# What stands between words, in a class of characters.
-_BETWEEN = " \t\r\n,;"
-# A line that `fontcut codes --glyphs` prints: a code, the number of its glyph and an advance width.
-_COLUMNS = re.compile("[ \t\r,;]*(U\\+[0-9A-Fa-f]{1,6}) [ \t\r,;]*[0-9]{1,5} [ \t\r,;]*[0-9]{1,5}(?![0-9,;])"
-                      "[ \t\r,;]*")
+def _needed(text: str) -> List[Range]:
+    """What `needed` returns, as ranges."""
+    data = _utf8(text)
+    return _ranges_of(lambda *room: cast(_Answer, _library().fontcut_needed(data, len(data), *room)))
 
 
-def _read_word(word: str) -> Tuple[int, int]:
-    """The first and the last code point of a word of a list."""
-    span, wildcard = _SPAN.fullmatch(word), _WILDCARD.fullmatch(word)
-    if word in ("all", "*"):
-        first, last = 0, _LAST_CODE
-    elif span:
-        first, last = int(span[1], 16), int(span[2] or span[1], 16)
-    elif wildcard:
-        marks = len(wildcard[2])
-        first, last = (int(wildcard[1] + digit * marks, 16) for digit in "0F")
-    else:
-        raise ValueError(f"bad word {word[:40]!r}: a range is written U+41, U+41-5A, U+4?? or all")
-    if not first <= last <= _LAST_CODE:
-        raise ValueError(f"bad range {word!r}: it ends before it begins, or above U+{_LAST_CODE:X}")
-    return first, last
+def needed(text: str) -> str:
+    r"""The characters that a text needs, each once, in the order of their code points: its own, and those that a shaper
+    takes for them or puts in beside them. A layout or variable cut for these shapes the text as the whole font does.
+    docs/FORMAT.md has the table.
 
-
-def _words(text: str) -> Iterator[str]:
-    """The words of a list."""
-    text = re.sub("#[^\n]*", "", text[1:] if text.startswith("\ufeff") else text)
-    text = re.sub(f"(?<![^{_BETWEEN}])(?:unicode-range:)+", " ", text)
-    for line in text.split("\n"):
-        columns = _COLUMNS.fullmatch(line)
-        yield from [columns[1]] if columns else filter(None, re.split(f"[{_BETWEEN}]+", line))
+    >>> ascii(needed("e\u0301"))
+    "' e\\xe9\\u0301\\u25cc'"
+    """
+    return "".join(chr(code) for first, last in _needed(text) for code in range(first, last + 1))
 
 
 def ranges(words: Union[str, Iterable[str]]) -> List[Range]:
@@ -871,4 +840,13 @@ def ranges(words: Union[str, Iterable[str]]) -> List[Range]:
         if not isinstance(text, str):
             raise TypeError(f"item {place} is {text!r}, which is no range word")
         texts.append(text)
-    return _ranges([_read_word(word) for text in texts for word in _words(text)])
+    data = _utf8("\n".join(texts))
+
+    def read(*room: object) -> _Answer:
+        answer = cast(_Answer, _library().fontcut_ranges(data, len(data), *room))
+        if answer.status == _BAD_TEXT:
+            word = re.split("[ \t\r\n,;#]", data[answer.detail:].decode(), 1)[0]
+            raise ValueError(f"bad word {word[:40]!r}: a range is written U+41, U+41-5A, U+4?? or all")
+        return answer
+
+    return _ranges_of(read)

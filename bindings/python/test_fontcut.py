@@ -89,16 +89,6 @@ class Cutting(unittest.TestCase):
                 fontcut.cut(BASE6, ALL, kind=kind)
         self.assertEqual(fontcut.cut(BASE6, ALL, kind="full"), fontcut.cut(BASE6, ALL))
 
-    def test_the_old_word_for_lean_cuts(self) -> None:
-        wanted = fontcut.cut(BASE6, ALL, kind="lean")
-        given: List[Dict[str, Any]] = [{"lean": True}, {"lean": True, "kind": "lean"}]
-        for words in given:
-            with self.assertWarns(DeprecationWarning):
-                self.assertEqual(fontcut.cut(BASE6, ALL, **words), wanted)
-        for kind in ("full", "layout", "variable"):
-            with self.assertRaises(ValueError), self.assertWarns(DeprecationWarning):
-                fontcut.cut(BASE6, ALL, kind=kind, lean=True)
-
     def test_slices_are_cuts(self) -> None:
         lists: List[List[fontcut.Codes]] = [[LETTERS, ACCENTED, ALL, [], "A", range(0x41, 0x43), ALL], [[]], [],
                                             [[(code, code)] for code in range(300)]]
@@ -291,7 +281,7 @@ class CuttingByNumber(unittest.TestCase):
         rows: List[Tuple[str, List[int], str, List[int]]] = [
             ("", [], "layout", [0]), ("A", [], "layout", [0, 1, 9]), ("BA", [], "variable", [0, 1, 2, 9]),
             ("", [7, 1, 1], "layout", [0, 1, 7, 9]), ("C", [4], "layout", [0, 3, 4]), ("A", [], "lean", [0, 1]),
-            ("A", [3], "full", [0, 1, 3])]
+            ("A", [], "full", [0, 1])]
         for wanted, gids, kind, closed in rows:
             self.assertEqual(fontcut.closure(LINKED, wanted, gids, kind=kind), closed)
             self.assertEqual(fontcut.closure(fontcut.Font(LINKED), wanted, iter(gids), kind=kind), closed)
@@ -348,12 +338,13 @@ class CuttingByNumber(unittest.TestCase):
         self.assertEqual(fontcut.kept_glyphs(LINKED), [0, 1, 2, 3, 4, 5, 6])
 
     def test_full_cuts_are_for_characters_alone(self) -> None:
-        for call in calls_by_number("full"):
+        calls = calls_by_number("full")
+        calls.append(functools.partial(fontcut.closure, LINKED, "A", kind="full"))
+        for call in calls:
             for gids in ([0], [10], range(3), "all"):
                 with self.assertRaisesRegex(ValueError, "full cuts are for characters alone"):
                     call(gids=gids)
             call(gids=[])
-            call(gids=None)
 
     def test_a_number_that_is_no_glyph(self) -> None:
         calls = calls_by_number("lean", "layout", "variable")
@@ -476,9 +467,20 @@ class Joining(unittest.TestCase):
 
     def test_refusals_are_handed_on(self) -> None:
         """A pool of processes hands an exception on as bytes."""
-        refused = fontcut.Refused(36, "different glyph 7", 7, 1)
-        again = pickle.loads(pickle.dumps(refused))
-        self.assertEqual((vars(again), str(again)), (vars(refused), str(refused)))
+        for hint in "", "; and more":
+            refused = fontcut.Refused(36, "different glyph 7", 7, 1, hint)
+            again = pickle.loads(pickle.dumps(refused))
+            self.assertEqual((vars(again), str(again)), (vars(refused), f"file 2: different glyph 7{hint}"))
+
+    def test_cuts_of_another_kind_are_named(self) -> None:
+        """Where no kind is named, the message says which one the refused file is a cut of."""
+        for kind, font in ("lean", NAMED), ("layout", WITH_GSUB), ("variable", WITH_GVAR):
+            cut = fontcut.cut(font, LETTERS, kind=kind, gids=[3])
+            with self.assertRaisesRegex(fontcut.Refused, f"^file 1: not a cut: first; {kind} .* with kind='{kind}'$"):
+                fontcut.join([cut, cut])
+            self.assertEqual(fontcut.join([cut, cut], kind=kind), cut)
+        with self.assertRaisesRegex(fontcut.Refused, "^file 1: not a cut: first$"):
+            fontcut.join([NAMED])
 
 
 class Asking(unittest.TestCase):
@@ -582,11 +584,6 @@ class Asking(unittest.TestCase):
         self.assert_refused([(lambda: fontcut.belongs(BASE6, b""), 1), (lambda: fontcut.belongs(b"", BASE6), 0)], 2,
                             "truncated")
 
-    def test_old_names(self) -> None:
-        cut = fontcut.cut(BASE6, LETTERS)
-        with self.assertWarns(DeprecationWarning):
-            self.assertTrue(fontcut.is_cut_of(cut, BASE6))
-
     def test_refused_fonts(self) -> None:
         places = [at for at in range(12, 12 + 16 * 7, 16) if BASE6[at:at + 4] == b"loca"]
         bad = bytearray(BASE6)
@@ -665,12 +662,34 @@ class Asking(unittest.TestCase):
         self.assertEqual(fontcut.ranges(["U+61", "U+41 U+42"]), [(0x41, 0x42), (0x61, 0x61)])
         self.assertEqual(fontcut.cut(BASE6, fontcut.ranges("U+41-42")), fontcut.cut(BASE6, "AB"))
         for words in NO_RANGES:
-            with self.assertRaisesRegex(ValueError, "bad (word|range) ", msg=words):
+            with self.assertRaisesRegex(ValueError, "bad word ", msg=words):
                 fontcut.ranges(words)
+        for words, named in (("U+41, zz;43", "zz"), ("unicode-range: \u00e9#", "\u00e9"), ("41\n42-41 x", "42-41"),
+                             ("4" * 100, "4" * 40)):
+            with self.assertRaisesRegex(ValueError, f"^bad word '{named}': a range is written U"):
+                fontcut.ranges(words)
+        with self.assertRaisesRegex(ValueError, r"item 3 is the lone surrogate U\+DC80"):
+            fontcut.ranges("41 \udc80")
         wrong: Any
         for wrong in ([65], b"all", 7):
             with self.assertRaises(TypeError):
                 fontcut.ranges(wrong)
+
+    def test_what_a_text_needs(self) -> None:
+        """Its own characters and others, as tests/needed_characters has them."""
+        for text, wanted in (("", ""), ("e\u0301", " e\xe9\u0301\u25cc"), ("\u2011", " -\u2010\u2011"),
+                             ("\n\x85", "\n \x85"), ("e\n\u0301", "\n e\u0301\u25cc"), ("\U0001f600", " \U0001f600")):
+            self.assertEqual(fontcut.needed(text), wanted)
+        everything = "".join(map(chr, [*range(0xD800), *range(0xE000, 0x110000)]))
+        self.assertEqual(fontcut.needed(everything), everything)
+        for text, place in (("\ud800", 0), ("ab\udfffc", 2), ("\ud83d\ude00", 0)):
+            with self.assertRaisesRegex(ValueError, rf"item {place} is the lone surrogate U\+"):
+                fontcut.needed(text)
+
+    def test_letters_that_joiners_are_used_with(self) -> None:
+        self.assertEqual(list(fontcut.joining([0x41, 0x628, 0x200C, 0x200D, 0xD800, 0x5D0, 0x915, 0x301, 0x1820])),
+                         [0x628, 0x915, 0x1820])
+        self.assertEqual(list(fontcut.joining([])), [])
 
     def test_refusals_are_those_of_check(self) -> None:
         calls: List[Callable[[bytes], object]] = [
@@ -687,7 +706,7 @@ class Asking(unittest.TestCase):
 
     def test_the_library_is_looked_for_at_the_first_call(self) -> None:
         """A program may import the module where no library is, and is told then how it is found."""
-        script = ("import fontcut; print(fontcut.__version__, fontcut.ranges('U+41'))\n"
+        script = ("import fontcut; print(fontcut.__version__)\n"
                   "try: fontcut.check(b'')\nexcept fontcut.LibraryMissing as error: print(error)")
         for library, text in (("/nowhere/fontcut", "cannot be loaded (/nowhere/"), ("libc.so.6", "older than this")):
             told = subprocess.run([sys.executable, "-B", "-c", script], env={**os.environ, "FONTCUT_LIBRARY": library},

@@ -1,25 +1,31 @@
 #!/usr/bin/env node
 // The commands of the program that node has, with its words, its bytes and its exit statuses.
 import { randomBytes } from 'node:crypto';
-import { chmodSync, closeSync, existsSync, lstatSync, openSync, readFileSync, readlinkSync, realpathSync, renameSync,
-    rmSync, statSync, writeFileSync, writeSync } from 'node:fs';
-import { dirname, join as pathOf, resolve } from 'node:path';
+import { chmodSync, closeSync, existsSync, lstatSync, mkdirSync, openSync, readFileSync, readlinkSync, realpathSync,
+    renameSync, rmSync, statSync, writeFileSync, writeSync } from 'node:fs';
+import { basename, dirname, join as pathOf, resolve } from 'node:path';
 import { parseArgs } from 'node:util';
-import { belongs, check, codes, cutForm, FontcutError, glyphs, init, join, metrics, ranges, subset, version }
+import { belongs, check, codes, cuts, cutForm, FontcutError, glyphs, init, join, metrics, ranges, subset, version }
     from './fontcut.js';
 import { KINDS, LAYOUT_TABLES, NO_GLYPH, SHAPED, kindWhere, rangeWord } from './kinds.js';
 import { needed } from './needed.js';
+import { slices } from './slices.js';
+import { woff2 } from './woff2.js';
 
 const HELP = `fontcut in node: subsets that keep glyph ids, and their joins
 
   fontcut subset FONT OUT [--lean | --layout | --variable] [--text TEXT] [--text-file FILE] [--unicodes LIST]
                           [--codes-file FILE] [--gids LIST] [--exactly] [--no-layout-closure] [--force] [WORDS..]
+  fontcut slice FONT FOLDER --slices SLICES [--lean | --layout | --variable] [--css FAMILY] [--woff2] [--strict]
+                            [--force]
   fontcut join [--lean | --layout | --variable] [--force] -o OUT FILES..
   fontcut belongs CUT FONT [--full | --lean | --layout | --variable]
   fontcut check FONT
   fontcut codes FONT [--glyphs]
 
 Arguments are those of the program; its manual page lists more. FONT and OUT may be -, for standard input and output.
+An OUT that ends in .woff2 is a WOFF2 file, and with --woff2 slices are too, beside those that join. SLICES are a file
+with a name and ranges in each line, or a preset, as web or japanese; those of no character of the font are not written.
 --quiet stands anywhere: of messages only the first line is printed. check prints no findings here, only whether the
 font is accepted, and subset does not say what a cut drops.
 
@@ -33,6 +39,11 @@ const COMMANDS = {
         run: runSubset, options: {
             ...KIND_FLAGS, text: LIST, 'text-file': LIST, unicodes: LIST, 'codes-file': LIST, gids: LIST, exactly: FLAG,
             'no-layout-closure': FLAG, force: FLAG, quiet: FLAG,
+        },
+    },
+    slice: {
+        run: runSlice, options: {
+            ...KIND_FLAGS, slices: LIST, css: { type: 'string' }, woff2: FLAG, strict: FLAG, force: FLAG, quiet: FLAG,
         },
     },
     join: {
@@ -176,7 +187,84 @@ function runSubset(given, [font, out, ...words]) {
     if (standsApart(given, out, [font])) {
         keepFont(given, out, font, data, `subset ${out} OUT cuts the font`);
     }
-    write(out, cutOf(data, { unicodes, gids, kind, layoutClosure: !given['no-layout-closure'] }));
+    writeFont(out, cutOf(data, { unicodes, gids, kind, layoutClosure: !given['no-layout-closure'] }));
+}
+
+const writeFont = (out, data) => write(out, /\.woff2$/i.test(out) ? woff2(data) : data);
+
+// The slices of a file: in each line a name and ranges. Each has the ranges of characters that the font maps.
+function slicesOfFile(path, font) {
+    const mapped = codes(font), lines = text(read(path), path).replace(/^\uFEFF/, '').split('\n');
+    return lines.flatMap((line, i) => {
+        const [, name, list] = /^\s*(\S*)\s*(.*?)\s*$/.exec(line.replace(/#.*/, ''));
+        if (name && !/^[A-Za-z0-9][A-Za-z0-9._-]*$/.test(name)) {
+            throw new Failed(2, `${path}: line ${i + 1}: bad name ${name.slice(0, 40)}`);
+        }
+        return name ? [{ name, unicodes: within(mapped, ranges(list)) }] : [];
+    });
+}
+
+// What two lists of ranges in ascending order share, as words.
+function within(some, others) {
+    const shared = some.flatMap(([first, last]) =>
+        others.map(([from, to]) => [Math.max(first, from), Math.min(last, to)]));
+    return shared.filter(([first, last]) => first <= last).map((range) => rangeWord(range, 'U+')).join(', ');
+}
+
+// A text as a string of CSS.
+const stringOf = (one) => `"${one.replace(/["\\]/g, '\\$&').replace(/\p{Cc}/gu, (sign) =>
+    `\\${sign.codePointAt(0).toString(16)} `)}"`;
+
+function ruleOf(family, file, unicodes) {
+    const format = file.endsWith('.woff2') ? 'woff2' : 'truetype';
+    const lines = [`font-family: ${stringOf(family)}`, `src: url("${file}") format("${format}")`,
+        `unicode-range: ${unicodes}`];
+    return `@font-face {\n${lines.map((line) => `  ${line};\n`).join('')}}\n`;
+}
+
+// The slices that a line names. Raises an error for two of one name, which would be one file.
+async function slicesOf(given, font) {
+    const named = await Promise.all((given.slices ?? []).map((one) =>
+        existsSync(one) ? slicesOfFile(one, font) : slices(font, [one])));
+    const found = named.flat(), names = found.map((one) => one.name.toLowerCase());
+    const twice = names.findIndex((name, i) => names.indexOf(name) < i);
+    if (twice >= 0) {
+        throw new Failed(2, `two slices have the name ${found[twice].name}`);
+    }
+    return found;
+}
+
+async function runSlice(given, [path, folder, ...more]) {
+    if (folder === undefined || !given.slices || more.length) {
+        throw new Failed(2, 'slice takes FONT, FOLDER and --slices SLICES');
+    }
+    const kind = kindOf(given), font = read(path);
+    check(font);
+    const every = await slicesOf(given, font), wanted = every.filter((one) => one.unicodes);
+    const said = every.filter((one) => !one.unicodes)
+        .map((one) => `slice ${one.name}: the font maps none of its characters`);
+    if (given.strict && said.length) {
+        throw new Failed(1, `nothing was written: ${said.join('; ')}`);
+    }
+    mkdirSync(folder, { recursive: true });
+    const outs = wanted.map((one) => pathOf(folder, `${one.name}.ttf`));
+    for (const out of outs.filter((one) => standsApart(given, one, []))) {
+        if (!isCut(standing(out))) {
+            throw new Failed(2, `${out} is a file already, and no cut: --force replaces it`);
+        }
+    }
+    const made = cuts(font, wanted, { kind, quiet: true });
+    wanted.forEach((one, i) => {
+        write(outs[i], made[i]);
+        const packed = outs[i].replace(/ttf$/, 'woff2');
+        if (given.woff2) {
+            write(packed, woff2(made[i]));
+        }
+        if (given.css !== undefined) {
+            print(ruleOf(given.css, basename(given.woff2 ? packed : outs[i]), one.unicodes));
+        }
+    });
+    process.stderr.write(given.quiet ? '' : said.map((line) => `fontcut: ${line}\n`).join(''));
 }
 
 const isCut = (data) => kindWhere((kind) => cutForm(data, { kind }) !== 'none') !== undefined;
@@ -240,8 +328,8 @@ function cutOf(font, wanted) {
 
 // A name of a file that would be packed is probably a mistake.
 function checkName(given, out) {
-    if (/\.woff2?$/i.test(out) && !given.force) {
-        throw new Failed(2, `${out}: the output is a TrueType file: --force writes it there`);
+    if (/\.woff$/i.test(out) && !given.force) {
+        throw new Failed(2, `${out}: the output is a TrueType file, or WOFF2 by its name: --force writes it there`);
     }
 }
 
@@ -254,12 +342,12 @@ function runJoin(given, words) {
         throw new Failed(2, `${out} would be replaced by one file: write join -o ${out} ${files[0]}`);
     }
     checkName(given, out);
-    const kind = kindOf(given), cuts = files.map(read);
+    const kind = kindOf(given), parts = files.map(read);
     const first = files.findIndex(isFile);
     if (first >= 0 && standsApart(given, out, files)) {
-        keepFont(given, out, files[first], cuts[first], 'name another OUT');
+        keepFont(given, out, files[first], parts[first], 'name another OUT');
     }
-    write(out, join(cuts, { kind }));
+    writeFont(out, join(parts, { kind }));
 }
 
 function runBelongs(given, words) {

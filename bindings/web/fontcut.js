@@ -20,7 +20,9 @@ const MOST_GLYPHS = 0xFFFF; // of a font: no glyph has this number
 const WITH_LINKS = SHAPED.map((kind) => KINDS.indexOf(kind));
 const FORMS = ['none', 'current', 'old'];
 
-const BYTES_OF_ANSWER = 24, BYTES_OF_INFO = 16, LONGEST_TEXT = 64;
+const BYTES_OF_ANSWER = 24, BYTES_OF_INFO = 16, BYTES_OF_REQUEST = 48, LONGEST_TEXT = 64;
+// The flags of a request, and of a look-up.
+const CLOSES = 1, CHECKED = 2;
 
 // The compiled module, the exports of its one instance, and the limit of its memory as a 64-bit number.
 let module, instance, most = 2n ** 64n - 1n;
@@ -142,6 +144,21 @@ class Areas {
         const at = this.room(list.length * Kind.BYTES_PER_ELEMENT);
         new Kind(this.#exports.memory.buffer, Number(at), list.length).set(list);
         return [at, BigInt(list.length / each)];
+    }
+
+    // Requests of a kind and with these flags, as the address and the count that a call takes.
+    requests(kind, flags, wanted) {
+        const lists = wanted.map(({ ranges, gids }) =>
+            [...this.numbers(Uint32Array, ranges, 2), ...this.numbers(Uint16Array, gids)]);
+        const at = this.room(lists.length * BYTES_OF_REQUEST), view = this.view(at, lists.length * BYTES_OF_REQUEST);
+        lists.forEach((numbers, i) => {
+            const begin = i * BYTES_OF_REQUEST;
+            view.setBigUint64(begin, BigInt(BYTES_OF_REQUEST), true);
+            view.setUint32(begin + 8, kind, true);
+            view.setUint32(begin + 12, flags, true);
+            numbers.forEach((number, place) => view.setBigUint64(begin + 16 + 8 * place, number, true));
+        });
+        return [at, BigInt(lists.length)];
     }
 
     bytes(at, length) {
@@ -312,8 +329,8 @@ function integersOf(list, what) {
     return given;
 }
 
-// The name of a call: for a Font, which was tested when it was made, the one that does not test it again.
-const checkedName = (name, font) => font instanceof Font ? `${name}_checked` : name;
+// A Font was tested when it was made.
+const flagOf = (font) => font instanceof Font ? CHECKED : 0;
 
 // Glyph numbers as C takes them: what is no glyph of any font is none of this one either.
 function glyphNumbersOf(list) {
@@ -324,34 +341,19 @@ function gidsOf(font, { gids = [] }) {
     return gids === 'all' ? Array.from({ length: info(font).glyphCount }, (_, i) => i) : glyphNumbersOf(gids);
 }
 
-// Whether cuts keep what GSUB may put, which they do by default.
-const isClosedCut = ({ layoutClosure = true } = {}) => layoutClosure;
+// The flags of cuts of a font, which keep what GSUB may put if nothing else is said.
+const flagsOf = (font, { layoutClosure = true } = {}) => flagOf(font) | (layoutClosure ? CLOSES : 0);
 
-// The closure of the ranges that `given` ends with and of glyphs, where so many others stand before these in all lists.
-function closed(areas, given, gids, before = 0) {
-    const list = areas.numbers(Uint16Array, gids);
-    const make = (...room) => {
-        const answer = areas.answer('closure', ...given, ...list, ...room);
-        return answer.status === NO_GLYPH ? { ...answer, detail: before + answer.detail } : answer;
-    };
-    return new Uint16Array(areas.written(MOST_GLYPHS, 2, make).buffer);
+// What is wanted of a font, as the ranges and the glyphs of a request.
+function wantedOf(font, wanted, { kind, exactly }) {
+    return { ranges: rangesOf(wanted, { kind, exactly }), gids: gidsOf(font, wanted) };
 }
 
-// The call that cuts a font for what is wanted, and what it is given before its room. The call for characters alone
-// follows GSUB, and the other one keeps just the glyphs that it is given: so GSUB is followed before.
-function cutting(areas, font, { kind, ranges, gids, isClosed }) {
-    const given = [kind, ...areas.file(font), ...areas.numbers(Uint32Array, ranges, 2)];
-    if (isClosed && !gids.length) {
-        return { name: 'subset', given };
-    }
-    const exact = isClosed && WITH_LINKS.includes(kind) ? closed(areas, given, gids) : gids;
-    return { name: 'subset_glyphs', given: [...given, ...areas.numbers(Uint16Array, exact)] };
-}
-
-// What is wanted of a font, with the options of its cut.
-function requestOf(font, wanted) {
-    const kind = kindOf(wanted), ranges = rangesOf(wanted, { kind, exactly: wanted.exactly });
-    return { kind, ranges, gids: gidsOf(font, wanted), isClosed: isClosedCut(wanted) };
+// A request of a font with the options of its cut: its address, the file, and what is wanted.
+function requestIn(areas, font, wanted, kind, flags) {
+    const one = wantedOf(font, wanted, { kind, exactly: wanted.exactly });
+    const [at] = areas.requests(kind, flags, [one]);
+    return { at, file: areas.file(font), ...one };
 }
 
 /** The version of the module, such as '0.11.0'. */
@@ -367,10 +369,11 @@ export function check(font) {
 
 /** The length in bytes of the cut that `subset` makes. None is made. */
 export function subsetSize(font, wanted) {
-    const request = requestOf(font, wanted);
+    const kind = kindOf(wanted);
     return within((areas) => {
-        const { name, given } = cutting(areas, font, request);
-        return areas.done(areas.answer(checkedName(`${name}_size`, font), ...given)).size;
+        const { at, file } = requestIn(areas, font, wanted, kind, flagsOf(font, wanted));
+        const answer = areas.answer('subset', at, ...file, areas.room(0), 0n);
+        return answer.status === SMALL_ROOM ? answer.size : areas.done(answer).size;
     });
 }
 
@@ -419,71 +422,57 @@ function warnUnshaped(font, { kind, ranges, gids, quiet }) {
 
 /** The cut of a font for the wanted characters and glyphs. Characters that the font does not map are ignored. */
 export function subset(font, wanted) {
-    const request = requestOf(font, wanted);
-    const cut = within((areas) => {
-        const { name, given } = cutting(areas, font, request);
-        // The room is just what the cut needs. The call that measures it tests the font, so the next one need not.
-        const { size } = areas.done(areas.answer(checkedName(`${name}_size`, font), ...given));
-        return areas.written(size, 1, (...room) => areas.answer(`${name}_checked`, ...given, ...room));
+    const kind = kindOf(wanted), flags = flagsOf(font, wanted);
+    const [cut, asked] = within((areas) => {
+        const { at, file, ...asked } = requestIn(areas, font, wanted, kind, flags);
+        // The room is just what the cut needs. The first call says that, and has tested the font for the second one.
+        const make = (...room) => {
+            const answer = areas.answer('subset', at, ...file, ...room);
+            areas.view(at, BYTES_OF_REQUEST).setUint32(12, flags | CHECKED, true);
+            return answer;
+        };
+        return [areas.written(0, 1, make), asked];
     });
-    warnUnshaped(font, { ...request, quiet: wanted.quiet });
+    warnUnshaped(font, { kind, ...asked, quiet: wanted.quiet });
     return cut;
 }
 
-// How many items each of some lists has, as a call takes it.
-const countsOf = (areas, lists, each = 1) =>
-    areas.numbers(BigUint64Array, lists.map((one) => BigInt(one.length / each)));
+// The place of a glyph of one set in the lists of all, one after another.
+const placeInAll = (wanted, { step, detail }) =>
+    wanted.slice(0, step).reduce((sum, { gids }) => sum + gids.length, detail);
 
-// The glyphs of each set, closed under GSUB.
-function closedSets(areas, start, ranges, gids) {
-    let before = 0;
-    return ranges.map((codes, i) => {
-        const numbers = closed(areas, [...start, ...areas.numbers(Uint32Array, codes, 2)], gids[i], before);
-        before += gids[i].length;
-        return [...numbers];
-    });
-}
-
-// The call that cuts a font for many sets, and what it is given before its room, as `cutting` has it.
-function cuttingSets(areas, font, { kind, ranges, gids, isClosed }) {
-    const start = [kind, ...areas.file(font)];
-    const given = [...start, ...areas.numbers(Uint32Array, ranges.flat(), 2), ...countsOf(areas, ranges, 2)];
-    if (isClosed && !gids.flat().length) {
-        return { name: 'cuts', given };
-    }
-    const exact = isClosed && WITH_LINKS.includes(kind) ? closedSets(areas, start, ranges, gids) : gids;
-    const numbers = [...areas.numbers(Uint16Array, exact.flat()), ...countsOf(areas, exact)];
-    return { name: 'cuts_glyphs', given: [...given, ...numbers] };
-}
-
-/**
- * The cuts of a font for many sets of characters and glyphs, in their order. The font is looked through once for all of
- * them, and once more for each set if there are glyph numbers whose substitutes are kept too.
- */
+/** The cuts of a font for many sets of characters and glyphs, in their order. The font is looked through once. */
 export function cuts(font, sets, options) {
-    const kind = kindOf(options), wanted = Array.from(sets);
-    const ranges = wanted.map((one) => rangesOf(one, { kind, exactly: options?.exactly }));
-    const gids = wanted.map((one) => gidsOf(font, one));
+    const kind = kindOf(options), flags = flagsOf(font, options);
+    const wanted = Array.from(sets, (one) => wantedOf(font, one, { kind, exactly: options?.exactly }));
+    if (!wanted.length) {
+        check(font);
+        return [];
+    }
     const made = within((areas) => {
-        const { name, given } = cuttingSets(areas, font, { kind, ranges, gids, isClosed: isClosedCut(options) });
-        const sizes = areas.numbers(BigUint64Array, ranges.map(() => 0n));
-        const all = areas.written(0, 1, (...room) => areas.answer(name, ...given, ...room, ...sizes));
-        const lengths = areas.view(sizes[0], 8 * ranges.length);
+        const given = [...areas.requests(kind, flags, wanted), ...areas.file(font)];
+        const sizes = areas.numbers(BigUint64Array, wanted.map(() => 0n));
+        const make = (...room) => {
+            const answer = areas.answer('subsets', ...given, ...room, ...sizes);
+            return answer.status === NO_GLYPH ? { ...answer, detail: placeInAll(wanted, answer) } : answer;
+        };
+        const all = areas.written(0, 1, make);
+        const lengths = areas.view(sizes[0], 8 * wanted.length);
         let end = 0;
-        return ranges.map((_, i) => all.slice(end, end += Number(lengths.getBigUint64(8 * i, true))));
+        return wanted.map((_, i) => all.slice(end, end += Number(lengths.getBigUint64(8 * i, true))));
     });
-    warnUnshaped(font, { kind, ranges: ranges.flat(), gids: gids.flat(), quiet: options?.quiet });
+    const [ranges, gids] = [wanted.flatMap((one) => one.ranges), wanted.flatMap((one) => one.gids)];
+    warnUnshaped(font, { kind, ranges, gids, quiet: options?.quiet });
     return made;
 }
 
 /** The glyphs that a shaper may put for text of the wanted characters and glyphs, ascending. */
 export function closure(font, wanted) {
-    const kind = kindOf({ kind: wanted.kind ?? 'layout' }), gids = gidsOf(font, wanted);
-    const ranges = rangesOf(wanted, { kind, exactly: wanted.exactly });
-    return within((areas) => {
-        const given = [kind, ...areas.file(font), ...areas.numbers(Uint32Array, ranges, 2)];
-        return closed(areas, given, gids);
-    });
+    const kind = kindOf({ kind: wanted.kind ?? 'layout' });
+    return new Uint16Array(within((areas) => {
+        const { at, file } = requestIn(areas, font, wanted, kind, flagOf(font));
+        return areas.written(MOST_GLYPHS, 2, (...room) => areas.answer('closure', at, ...file, ...room));
+    }).buffer);
 }
 
 /** The glyphs that a file keeps as a cut of a kind, ascending. */
@@ -523,7 +512,7 @@ export function glyphs(font, wanted) {
     return new Uint16Array(within((areas) => {
         const [file, list] = [areas.file(font), areas.numbers(Uint32Array, known)];
         return areas.written(known.length, 2, (...room) =>
-            areas.answer(checkedName('glyphs', font), ...file, ...list, ...room));
+            areas.answer('glyphs', flagOf(font), ...file, ...list, ...room));
     }).buffer);
 }
 
@@ -533,7 +522,7 @@ export function metrics(font, glyphNumbers) {
     const view = new DataView(within((areas) => {
         const [file, list] = [areas.file(font), areas.numbers(Uint16Array, given)];
         return areas.written(given.length, 4, (...room) =>
-            areas.answer(checkedName('metrics', font), ...file, ...list, ...room));
+            areas.answer('metrics', flagOf(font), ...file, ...list, ...room));
     }).buffer);
     return given.map((_, i) => ({ advance: view.getUint16(4 * i, true), bearing: view.getInt16(4 * i + 2, true) }));
 }

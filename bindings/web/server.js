@@ -36,11 +36,11 @@ class Answer extends Error {
     }
 }
 
-// The kind of cut that a query asks for. `lean=1` is an older way to ask for `kind=lean`.
+// The kind of cut that a query asks for.
 function kindOf(asked) {
-    const isLean = asked.get('lean') === '1', kind = asked.get('kind') ?? (isLean ? 'lean' : 'full');
-    if (!KINDS.includes(kind) || isLean && kind !== 'lean') {
-        throw new Answer(400, 'kind is full, lean, layout or variable, and with lean=1 it is lean');
+    const kind = asked.get('kind') ?? 'full';
+    if (!KINDS.includes(kind)) {
+        throw new Answer(400, 'kind is full, lean, layout or variable');
     }
     return kind;
 }
@@ -51,7 +51,7 @@ function wantedBy(query) {
         throw new Answer(414, `a query has ${LONGEST_QUERY} characters at most`);
     }
     const asked = new URLSearchParams(query), names = [...asked.keys()];
-    const isKnown = names.every((name) => ['unicodes', 'text', 'kind', 'lean'].includes(name));
+    const isKnown = names.every((name) => ['unicodes', 'text', 'kind'].includes(name));
     if (!isKnown || !asked.has('unicodes') && !asked.has('text')) {
         throw new Answer(400, 'a query has unicodes or text, and may have kind');
     }

@@ -62,11 +62,10 @@ def fonts_of(folder: str) -> Dict[str, Font]:
 
 
 def kind_of(asked: Dict[str, List[str]]) -> str:
-    """The kind of cut that a query asks for. `lean=1` is an older way to ask for `kind=lean`."""
-    lean = asked.get("lean", ["0"])[-1] == "1"
-    kind = asked.get("kind", ["lean" if lean else "full"])[-1]
-    if kind not in KINDS or (lean and kind != "lean"):
-        raise Answer("400 Bad Request", "kind is full, lean, layout or variable, and with lean=1 it is lean")
+    """The kind of cut that a query asks for."""
+    kind = asked.get("kind", ["full"])[-1]
+    if kind not in KINDS:
+        raise Answer("400 Bad Request", "kind is full, lean, layout or variable")
     return kind
 
 
@@ -80,7 +79,7 @@ def wanted_by(query: str) -> Tuple[List[Range], str]:
                                       strict_parsing=bool(query), errors="strict", max_num_fields=8)
     except ValueError:
         raise Answer("400 Bad Request", "bad query") from None
-    if not asked.keys() <= {"unicodes", "text", "kind", "lean"} or not asked.keys() & {"unicodes", "text"}:
+    if not asked.keys() <= {"unicodes", "text", "kind"} or not asked.keys() & {"unicodes", "text"}:
         raise Answer("400 Bad Request", "a query has unicodes or text, and may have kind")
     kind = kind_of(asked)
     lists = [re.sub(r"(?<![^\s,;:-])([Uu]) (?=[0-9A-Fa-f?])", r"\1+", value) for value in asked.get("unicodes", ())]

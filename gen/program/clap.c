@@ -4069,7 +4069,7 @@ v172:;
     at(ptr, v16) = (u8 *)table_fb8b704f;
     at(u64, v16 + 8) = 2;
     at(ptr, v16 + 16) = v14;
-    if (!(std_alloc_string_String_write_fmt_552d(v13, v16) & 1)) goto v193;
+    if (!(std_alloc_string_String_write_fmt_233a(v13, v16) & 1)) goto v193;
     if (at(u64, v13 + 16) == 0) goto v110;
     goto v182;
 v187:;
@@ -6003,7 +6003,7 @@ v168:;
     at(ptr, v11) = (u8 *)table_c58554cc;
     at(u64, v11 + 8) = 1;
     at(ptr, v11 + 16) = v146 + (i64)v161;
-    if (!(std_alloc_string_String_write_fmt_552d(v8, v11) & 1)) { v160 = v199; goto v158; }
+    if (!(std_alloc_string_String_write_fmt_233a(v8, v11) & 1)) { v160 = v199; goto v158; }
     if (at(u64, v8 + 16) == 0) goto v217;
     sys_rattle_dealloc(at(ptr, v8));
 v217:;
@@ -6660,7 +6660,7 @@ v618:;
     at(ptr, v13) = (u8 *)table_c58554cc;
     at(u64, v13 + 8) = 1;
     at(ptr, v13 + 16) = v11;
-    if (!(std_alloc_string_String_write_fmt_552d(v0 + 16, v13) & 1)) goto v641;
+    if (!(std_alloc_string_String_write_fmt_233a(v0 + 16, v13) & 1)) goto v641;
     if (v612 == 0) goto v609;
     goto v635;
 v633:;
@@ -7242,7 +7242,7 @@ v614:;
     at(ptr, v13) = (u8 *)table_2a41a650;
     at(u64, v13 + 8) = 3;
     at(ptr, v13 + 16) = v12;
-    if (!(std_alloc_string_String_write_fmt_552d(v11, v13) & 1)) goto v640;
+    if (!(std_alloc_string_String_write_fmt_233a(v11, v13) & 1)) goto v640;
     if (at(u64, v11 + 16) == 0) goto v652;
     sys_rattle_dealloc(at(ptr, v11));
 v652:;
@@ -7981,7 +7981,7 @@ v33:;
     at(ptr, v6) = (u8 *)table_c58554cc;
     at(u64, v6 + 8) = 1;
     at(ptr, v6 + 16) = v11 + (i64)v26;
-    if (!(std_alloc_string_String_write_fmt_552d(v4, v6) & 1)) { v25 = v64; goto v23; }
+    if (!(std_alloc_string_String_write_fmt_233a(v4, v6) & 1)) { v25 = v64; goto v23; }
     if (at(u64, v4 + 16) == 0) goto v77;
     sys_rattle_dealloc(at(ptr, v4));
 v77:;

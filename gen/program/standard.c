@@ -6578,6 +6578,80 @@ v199:;
     return;
 }
 
+void program_files_held_files_HostRuntimeHeldFiles_hold(u8 *v0, u8 *v1) {
+    u8 v3[41], v68, v69;
+    _Alignas(8) u8 v4[96], v5[16];
+    _Alignas(2) u8 v6[86];
+    u64 v70;
+    memset(v4, 0, 96u);
+    at(u64, v5 + 8) = 0;
+    memset(v6, 0, 86u);
+    u32 v8 = at(u32, v1);
+    at(u32, v5) = 4;
+    at(u32, v5 + 4) = 6;
+    std_fs_apply(v4, v8, v5);
+    u8 v10 = at(u8, v4);
+    u8 v12 = at(u8, v4 + 8);
+    u8 v14 = at(u8, v4 + 9);
+    if (v10 == 0) { v68 = 0; v69 = 0; v70 = 0; goto v17; }
+    at(u8, v3) = 0;
+    at(u8, v3 + 1) = 1;
+    at(u8, v3 + 2) = 2;
+    at(u8, v3 + 3) = 3;
+    at(u8, v3 + 4) = 4;
+    at(u8, v3 + 5) = 5;
+    at(u8, v3 + 6) = 6;
+    at(u8, v3 + 7) = 7;
+    at(u8, v3 + 8) = 8;
+    at(u8, v3 + 9) = 9;
+    at(u8, v3 + 10) = 10u;
+    at(u8, v3 + 11) = 11u;
+    at(u8, v3 + 12) = 12u;
+    at(u8, v3 + 13) = 13u;
+    at(u8, v3 + 14) = 14u;
+    at(u8, v3 + 15) = 15u;
+    at(u8, v3 + 16) = 16u;
+    at(u8, v3 + 17) = 17u;
+    at(u8, v3 + 18) = 18u;
+    at(u8, v3 + 19) = 19u;
+    at(u8, v3 + 20) = 20u;
+    at(u8, v3 + 21) = 21u;
+    at(u8, v3 + 22) = 22u;
+    at(u8, v3 + 23) = 23u;
+    at(u8, v3 + 24) = 24u;
+    at(u8, v3 + 25) = 25u;
+    at(u8, v3 + 26) = 26u;
+    at(u8, v3 + 27) = 27u;
+    at(u8, v3 + 28) = 28u;
+    at(u8, v3 + 29) = 29u;
+    at(u8, v3 + 30) = 30u;
+    at(u8, v3 + 31) = 31u;
+    at(u8, v3 + 32) = 32u;
+    at(u8, v3 + 33) = 33u;
+    at(u8, v3 + 34) = 34u;
+    at(u8, v3 + 35) = 35u;
+    at(u8, v3 + 36) = 36u;
+    at(u8, v3 + 37) = 37u;
+    at(u8, v3 + 38) = 38u;
+    at(u8, v3 + 39) = 39u;
+    at(u8, v3 + 40) = 40u;
+    if (!(v14 < 41u)) goto v61;
+    if (!(at(u8, v3 + ((u64)v14)) == 13u)) goto v62;
+    memset(v6, 0, 86u);
+    v68 = 0; v69 = 0; v70 = 1; goto v17;
+v61:;
+v62:;
+    memcpy(v6, v4 + 10, 86u);
+    v68 = v12; v69 = v14; v70 = 0;
+v17:;
+    at(u8, v0) = v10;
+    at(u64_1, v0 + 8) = v70;
+    at(u8, v0 + 16) = v68;
+    at(u8, v0 + 17) = v69;
+    memcpy(v0 + 18, v6, 86u);
+    return;
+}
+
 void program_files_out_file_OutFile_is_beside_path(u8 *v0, u8 *v1, u8 *v2) {
     u8 v4[41], v76, v78, v70, v73, v75, v77, *v79;
     _Alignas(8) u8 v5[88], v6[176], v8[176];
@@ -9213,6 +9287,85 @@ v336:;
     return 1;
 }
 
+u8 std_alloc_string_String_write_fmt_233a(u8 *v0, u8 *v1) {
+    _Alignas(8) u8 v3[24], v4[64], v5[24];
+    u64 v31, v32, v56, v67, v70, v78, v80;
+    memcpy(v3, v1, 24u);
+    u64 v7 = at(u64, v0 + 8);
+    memcpy(v4, v0, 24u);
+    memset(v4 + 48, 0, 16u);
+    at(u32, v4 + 24) = 32u;
+    memset(v4 + 28, 0, 12u);
+    at(u64, v4 + 40) = 0xffffffffffffffffu;
+    u8 *v13 = at(ptr, v3);
+    u64 v14 = (u64)v13;
+    u64 v16 = at(u64, v3 + 8);
+    u64 v18 = at(u64, v4 + 16);
+    u64 v20 = at(u64, v4 + 8);
+    if (!(v16 > (v18 - v20))) { v31 = v18; v32 = v20; goto v24; }
+    if (!std_alloc_vec_Vec_grow_amortized_1cf2(v4, v16)) goto v27;
+    v31 = at(u64, v4 + 16); v32 = at(u64, v4 + 8); goto v24;
+v27:;
+    memcpy(v5, v4, 24u);
+    memcpy(v0, v5, 24u);
+    goto v28;
+v24:;
+    u64 v33 = v32 + v16;
+    u8 *v34 = at(ptr, v4);
+    u64 v35 = (u64)v34;
+    if (!((((u64)(v34 + (i64)v32)) - ((u64)v13)) < v16)) goto v42;
+    if (v16 < 4) { v78 = 0; goto v44; }
+    if (((v32 + v35) - v14) < 32u) { v78 = 0; goto v44; }
+    if (v16 < 16u) { v67 = 0; goto v51; }
+    u64 v53 = v16 & 12u;
+    u64 v54 = v16 & 0xfffffffffffffff0u;
+    v56 = 0;
+v55:;
+    at(u8x16_1, (v34 + (i64)v32) + v56) = at(u8x16_1, v13 + v56);
+    u64 v57 = v56 + 16u;
+    if (!(v57 == v54)) { v56 = v57; goto v55; }
+    if (v16 == v54) goto v64;
+    if (v53 == 0) { v78 = v54; goto v44; }
+    v67 = v54;
+v51:;
+    u64 v68 = v16 & 0xfffffffffffffffcu;
+    v70 = v67;
+v69:;
+    at(u8x4_1, (v34 + (i64)v32) + v70) = at(u8x4_1, v13 + v70);
+    u64 v71 = v70 + 4;
+    if (!(v71 == v68)) { v70 = v71; goto v69; }
+    if (v16 == v68) goto v64;
+    v78 = v68;
+v44:;
+    v80 = v78;
+v79:;
+    at(u8, (v34 + (i64)v32) + v80) = at(u8, v13 + v80);
+    u64 v81 = v80 + 1;
+    if (v81 == v16) goto v64;
+    v80 = v81; goto v79;
+v42:;
+    memmove_any(v34 + (i64)v32, v13, v16);
+v64:;
+    at(u64, v4 + 8) = v33;
+    at(u64, v4 + 16) = v31;
+    u8 v86 = core_fmt_formatter_Formatter_write_piece_4111(v4, v3 + 16);
+    memcpy(v5, v4, 24u);
+    memcpy(v0, v5, 24u);
+    if (v86 == 0) return 0;
+v28:;
+    u8 *v89 = at(ptr, v0);
+    u64 v90 = at(u64, v0 + 8);
+    if (!((v7 == 0) | (v7 == v90))) goto v95;
+    if (v90 > v7) goto v103;
+    return 1;
+v95:;
+    if (v90 < v7) return 1;
+    if (!((v90 > v7) & ((i8)at(u8, v89 + v7) > (i8)191u))) return 1;
+v103:;
+    at(u64, v0 + 8) = v7;
+    return 1;
+}
+
 u8 std_alloc_string_String_write_fmt_3469(u8 *v0, u8 *v1) {
     _Alignas(8) u8 v3[24], v4[64], v5[24];
     u64 v31, v32, v56, v67, v70, v78, v80;
@@ -9733,85 +9886,6 @@ v232:;
     if (!((v227 > v18) & ((i8)at(u8, v226 + v18) > (i8)191u))) return 1;
 v240:;
     at(u64, v0 + 8) = v18;
-    return 1;
-}
-
-u8 std_alloc_string_String_write_fmt_552d(u8 *v0, u8 *v1) {
-    _Alignas(8) u8 v3[24], v4[64], v5[24];
-    u64 v31, v32, v56, v67, v70, v78, v80;
-    memcpy(v3, v1, 24u);
-    u64 v7 = at(u64, v0 + 8);
-    memcpy(v4, v0, 24u);
-    memset(v4 + 48, 0, 16u);
-    at(u32, v4 + 24) = 32u;
-    memset(v4 + 28, 0, 12u);
-    at(u64, v4 + 40) = 0xffffffffffffffffu;
-    u8 *v13 = at(ptr, v3);
-    u64 v14 = (u64)v13;
-    u64 v16 = at(u64, v3 + 8);
-    u64 v18 = at(u64, v4 + 16);
-    u64 v20 = at(u64, v4 + 8);
-    if (!(v16 > (v18 - v20))) { v31 = v18; v32 = v20; goto v24; }
-    if (!std_alloc_vec_Vec_grow_amortized_1cf2(v4, v16)) goto v27;
-    v31 = at(u64, v4 + 16); v32 = at(u64, v4 + 8); goto v24;
-v27:;
-    memcpy(v5, v4, 24u);
-    memcpy(v0, v5, 24u);
-    goto v28;
-v24:;
-    u64 v33 = v32 + v16;
-    u8 *v34 = at(ptr, v4);
-    u64 v35 = (u64)v34;
-    if (!((((u64)(v34 + (i64)v32)) - ((u64)v13)) < v16)) goto v42;
-    if (v16 < 4) { v78 = 0; goto v44; }
-    if (((v32 + v35) - v14) < 32u) { v78 = 0; goto v44; }
-    if (v16 < 16u) { v67 = 0; goto v51; }
-    u64 v53 = v16 & 12u;
-    u64 v54 = v16 & 0xfffffffffffffff0u;
-    v56 = 0;
-v55:;
-    at(u8x16_1, (v34 + (i64)v32) + v56) = at(u8x16_1, v13 + v56);
-    u64 v57 = v56 + 16u;
-    if (!(v57 == v54)) { v56 = v57; goto v55; }
-    if (v16 == v54) goto v64;
-    if (v53 == 0) { v78 = v54; goto v44; }
-    v67 = v54;
-v51:;
-    u64 v68 = v16 & 0xfffffffffffffffcu;
-    v70 = v67;
-v69:;
-    at(u8x4_1, (v34 + (i64)v32) + v70) = at(u8x4_1, v13 + v70);
-    u64 v71 = v70 + 4;
-    if (!(v71 == v68)) { v70 = v71; goto v69; }
-    if (v16 == v68) goto v64;
-    v78 = v68;
-v44:;
-    v80 = v78;
-v79:;
-    at(u8, (v34 + (i64)v32) + v80) = at(u8, v13 + v80);
-    u64 v81 = v80 + 1;
-    if (v81 == v16) goto v64;
-    v80 = v81; goto v79;
-v42:;
-    memmove_any(v34 + (i64)v32, v13, v16);
-v64:;
-    at(u64, v4 + 8) = v33;
-    at(u64, v4 + 16) = v31;
-    u8 v86 = core_fmt_formatter_Formatter_write_piece_4111(v4, v3 + 16);
-    memcpy(v5, v4, 24u);
-    memcpy(v0, v5, 24u);
-    if (v86 == 0) return 0;
-v28:;
-    u8 *v89 = at(ptr, v0);
-    u64 v90 = at(u64, v0 + 8);
-    if (!((v7 == 0) | (v7 == v90))) goto v95;
-    if (v90 > v7) goto v103;
-    return 1;
-v95:;
-    if (v90 < v7) return 1;
-    if (!((v90 > v7) & ((i8)at(u8, v89 + v7) > (i8)191u))) return 1;
-v103:;
-    at(u64, v0 + 8) = v7;
     return 1;
 }
 
@@ -12105,6 +12179,307 @@ v347:;
     if (v342 < v7) return 1;
     if (!((v342 > v7) & ((i8)at(u8, v341 + v7) > (i8)191u))) return 1;
 v355:;
+    at(u64, v0 + 8) = v7;
+    return 1;
+}
+
+u8 std_alloc_string_String_write_fmt_e990(u8 *v0, u8 *v1) {
+    _Alignas(8) u8 v3[96], v4[64], v5[24];
+    u64 v32, v33, v57, v68, v71, v79, v81, v108, v109, v133, v144, v147, v155, v157, v190, v191, v215, v226, v229, v237, v239, v266, v267, v291, v302, v305, v313, v315, v342, v343, v367, v378, v381, v389, v391;
+    memcpy(v3, v1, 96u);
+    u64 v7 = at(u64, v0 + 8);
+    memcpy(v4, v0, 24u);
+    memset(v4 + 48, 0, 16u);
+    at(u32, v4 + 24) = 32u;
+    memset(v4 + 28, 0, 12u);
+    at(u64, v4 + 40) = 0xffffffffffffffffu;
+    u8 *v15 = at(ptr, v3);
+    u64 v16 = (u64)v15;
+    u64 v18 = at(u64, v3 + 8);
+    u64 v20 = at(u64, v4 + 16);
+    u64 v22 = at(u64, v4 + 8);
+    if (!(v18 > (v20 - v22))) { v32 = v20; v33 = v22; goto v26; }
+    if (!std_alloc_vec_Vec_grow_amortized_1cf2(v4, v18)) goto v29;
+    v32 = at(u64, v4 + 16); v33 = at(u64, v4 + 8);
+v26:;
+    u64 v34 = v33 + v18;
+    u8 *v35 = at(ptr, v4);
+    u64 v36 = (u64)v35;
+    if (!((((u64)(v35 + (i64)v33)) - ((u64)v15)) < v18)) goto v43;
+    if (v18 < 4) { v79 = 0; goto v45; }
+    if (((v33 + v36) - v16) < 32u) { v79 = 0; goto v45; }
+    if (v18 < 16u) { v68 = 0; goto v52; }
+    u64 v54 = v18 & 12u;
+    u64 v55 = v18 & 0xfffffffffffffff0u;
+    v57 = 0;
+v56:;
+    at(u8x16_1, (v35 + (i64)v33) + v57) = at(u8x16_1, v15 + v57);
+    u64 v58 = v57 + 16u;
+    if (!(v58 == v55)) { v57 = v58; goto v56; }
+    if (v18 == v55) goto v65;
+    if (v54 == 0) { v79 = v55; goto v45; }
+    v68 = v55;
+v52:;
+    u64 v69 = v18 & 0xfffffffffffffffcu;
+    v71 = v68;
+v70:;
+    at(u8x4_1, (v35 + (i64)v33) + v71) = at(u8x4_1, v15 + v71);
+    u64 v72 = v71 + 4;
+    if (!(v72 == v69)) { v71 = v72; goto v70; }
+    if (v18 == v69) goto v65;
+    v79 = v69;
+v45:;
+    v81 = v79;
+v80:;
+    at(u8, (v35 + (i64)v33) + v81) = at(u8, v15 + v81);
+    u64 v82 = v81 + 1;
+    if (v82 == v18) goto v65;
+    v81 = v82; goto v80;
+v43:;
+    memmove_any(v35 + (i64)v33, v15, v18);
+v65:;
+    at(u64, v4 + 8) = v34;
+    at(u64, v4 + 16) = v32;
+    if (core_fmt_formatter_Formatter_write_piece_0850(v4, v3 + 16) & 1) goto v29;
+    at(u32, v4 + 24) = 32u;
+    memset(v4 + 28, 0, 12u);
+    at(u64, v4 + 40) = 0xffffffffffffffffu;
+    u8 *v90 = at(ptr, v3 + 24);
+    u64 v91 = (u64)v90;
+    u64 v93 = at(u64, v3 + 32);
+    if (!(at(u64, v4 + 48) == 0)) goto v97;
+    u64 v98 = at(u64, v4 + 16);
+    u64 v99 = at(u64, v4 + 8);
+    if (!(v93 > (v98 - v99))) { v108 = v98; v109 = v99; goto v103; }
+    if (!std_alloc_vec_Vec_grow_amortized_1cf2(v4, v93)) goto v29;
+    v108 = at(u64, v4 + 16); v109 = at(u64, v4 + 8);
+v103:;
+    u64 v110 = v109 + v93;
+    u8 *v111 = at(ptr, v4);
+    u64 v112 = (u64)v111;
+    if (!((((u64)(v111 + (i64)v109)) - ((u64)v90)) < v93)) goto v119;
+    if (v93 < 4) { v155 = 0; goto v121; }
+    if (((v109 + v112) - v91) < 32u) { v155 = 0; goto v121; }
+    if (v93 < 16u) { v144 = 0; goto v128; }
+    u64 v130 = v93 & 12u;
+    u64 v131 = v93 & 0xfffffffffffffff0u;
+    v133 = 0;
+v132:;
+    at(u8x16_1, (v111 + (i64)v109) + v133) = at(u8x16_1, v90 + v133);
+    u64 v134 = v133 + 16u;
+    if (!(v134 == v131)) { v133 = v134; goto v132; }
+    if (v93 == v131) goto v141;
+    if (v130 == 0) { v155 = v131; goto v121; }
+    v144 = v131;
+v128:;
+    u64 v145 = v93 & 0xfffffffffffffffcu;
+    v147 = v144;
+v146:;
+    at(u8x4_1, (v111 + (i64)v109) + v147) = at(u8x4_1, v90 + v147);
+    u64 v148 = v147 + 4;
+    if (!(v148 == v145)) { v147 = v148; goto v146; }
+    if (v93 == v145) goto v141;
+    v155 = v145;
+v121:;
+    v157 = v155;
+v156:;
+    at(u8, (v111 + (i64)v109) + v157) = at(u8, v90 + v157);
+    u64 v158 = v157 + 1;
+    if (v158 == v93) goto v141;
+    v157 = v158; goto v156;
+v119:;
+    memmove_any(v111 + (i64)v109, v90, v93);
+v141:;
+    at(u64, v4 + 8) = v110;
+    at(u64, v4 + 16) = v108;
+    goto v163;
+v97:;
+    if (core_fmt_formatter_Formatter_write_indented_04f0(v4, v90, v93) & 1) goto v29;
+v163:;
+    if (core_fmt_formatter_Formatter_write_piece_13a2(v4, v3 + 40) & 1) goto v29;
+    at(u32, v4 + 24) = 32u;
+    memset(v4 + 28, 0, 12u);
+    at(u64, v4 + 40) = 0xffffffffffffffffu;
+    u8 *v172 = at(ptr, v3 + 48);
+    u64 v173 = (u64)v172;
+    u64 v175 = at(u64, v3 + 56);
+    if (!(at(u64, v4 + 48) == 0)) goto v179;
+    u64 v180 = at(u64, v4 + 16);
+    u64 v181 = at(u64, v4 + 8);
+    if (!(v175 > (v180 - v181))) { v190 = v180; v191 = v181; goto v185; }
+    if (!std_alloc_vec_Vec_grow_amortized_1cf2(v4, v175)) goto v29;
+    v190 = at(u64, v4 + 16); v191 = at(u64, v4 + 8);
+v185:;
+    u64 v192 = v191 + v175;
+    u8 *v193 = at(ptr, v4);
+    u64 v194 = (u64)v193;
+    if (!((((u64)(v193 + (i64)v191)) - ((u64)v172)) < v175)) goto v201;
+    if (v175 < 4) { v237 = 0; goto v203; }
+    if (((v191 + v194) - v173) < 32u) { v237 = 0; goto v203; }
+    if (v175 < 16u) { v226 = 0; goto v210; }
+    u64 v212 = v175 & 12u;
+    u64 v213 = v175 & 0xfffffffffffffff0u;
+    v215 = 0;
+v214:;
+    at(u8x16_1, (v193 + (i64)v191) + v215) = at(u8x16_1, v172 + v215);
+    u64 v216 = v215 + 16u;
+    if (!(v216 == v213)) { v215 = v216; goto v214; }
+    if (v175 == v213) goto v223;
+    if (v212 == 0) { v237 = v213; goto v203; }
+    v226 = v213;
+v210:;
+    u64 v227 = v175 & 0xfffffffffffffffcu;
+    v229 = v226;
+v228:;
+    at(u8x4_1, (v193 + (i64)v191) + v229) = at(u8x4_1, v172 + v229);
+    u64 v230 = v229 + 4;
+    if (!(v230 == v227)) { v229 = v230; goto v228; }
+    if (v175 == v227) goto v223;
+    v237 = v227;
+v203:;
+    v239 = v237;
+v238:;
+    at(u8, (v193 + (i64)v191) + v239) = at(u8, v172 + v239);
+    u64 v240 = v239 + 1;
+    if (v240 == v175) goto v223;
+    v239 = v240; goto v238;
+v201:;
+    memmove_any(v193 + (i64)v191, v172, v175);
+v223:;
+    at(u64, v4 + 8) = v192;
+    at(u64, v4 + 16) = v190;
+    goto v245;
+v179:;
+    if (core_fmt_formatter_Formatter_write_indented_04f0(v4, v172, v175) & 1) goto v29;
+v245:;
+    at(u32, v4 + 24) = 32u;
+    memset(v4 + 28, 0, 12u);
+    at(u64, v4 + 40) = 0xffffffffffffffffu;
+    u8 *v248 = at(ptr, v3 + 64);
+    u64 v249 = (u64)v248;
+    u64 v251 = at(u64, v3 + 72);
+    if (!(at(u64, v4 + 48) == 0)) goto v255;
+    u64 v256 = at(u64, v4 + 16);
+    u64 v257 = at(u64, v4 + 8);
+    if (!(v251 > (v256 - v257))) { v266 = v256; v267 = v257; goto v261; }
+    if (!std_alloc_vec_Vec_grow_amortized_1cf2(v4, v251)) goto v29;
+    v266 = at(u64, v4 + 16); v267 = at(u64, v4 + 8);
+v261:;
+    u64 v268 = v267 + v251;
+    u8 *v269 = at(ptr, v4);
+    u64 v270 = (u64)v269;
+    if (!((((u64)(v269 + (i64)v267)) - ((u64)v248)) < v251)) goto v277;
+    if (v251 < 4) { v313 = 0; goto v279; }
+    if (((v267 + v270) - v249) < 32u) { v313 = 0; goto v279; }
+    if (v251 < 16u) { v302 = 0; goto v286; }
+    u64 v288 = v251 & 12u;
+    u64 v289 = v251 & 0xfffffffffffffff0u;
+    v291 = 0;
+v290:;
+    at(u8x16_1, (v269 + (i64)v267) + v291) = at(u8x16_1, v248 + v291);
+    u64 v292 = v291 + 16u;
+    if (!(v292 == v289)) { v291 = v292; goto v290; }
+    if (v251 == v289) goto v299;
+    if (v288 == 0) { v313 = v289; goto v279; }
+    v302 = v289;
+v286:;
+    u64 v303 = v251 & 0xfffffffffffffffcu;
+    v305 = v302;
+v304:;
+    at(u8x4_1, (v269 + (i64)v267) + v305) = at(u8x4_1, v248 + v305);
+    u64 v306 = v305 + 4;
+    if (!(v306 == v303)) { v305 = v306; goto v304; }
+    if (v251 == v303) goto v299;
+    v313 = v303;
+v279:;
+    v315 = v313;
+v314:;
+    at(u8, (v269 + (i64)v267) + v315) = at(u8, v248 + v315);
+    u64 v316 = v315 + 1;
+    if (v316 == v251) goto v299;
+    v315 = v316; goto v314;
+v277:;
+    memmove_any(v269 + (i64)v267, v248, v251);
+v299:;
+    at(u64, v4 + 8) = v268;
+    at(u64, v4 + 16) = v266;
+    goto v321;
+v255:;
+    if (core_fmt_formatter_Formatter_write_indented_04f0(v4, v248, v251) & 1) goto v29;
+v321:;
+    at(u32, v4 + 24) = 32u;
+    memset(v4 + 28, 0, 12u);
+    at(u64, v4 + 40) = 0xffffffffffffffffu;
+    u8 *v324 = at(ptr, v3 + 80);
+    u64 v325 = (u64)v324;
+    u64 v327 = at(u64, v3 + 88);
+    if (!(at(u64, v4 + 48) == 0)) goto v331;
+    u64 v332 = at(u64, v4 + 16);
+    u64 v333 = at(u64, v4 + 8);
+    if (!(v327 > (v332 - v333))) { v342 = v332; v343 = v333; goto v337; }
+    if (!std_alloc_vec_Vec_grow_amortized_1cf2(v4, v327)) goto v29;
+    v342 = at(u64, v4 + 16); v343 = at(u64, v4 + 8); goto v337;
+v29:;
+    memcpy(v5, v4, 24u);
+    memcpy(v0, v5, 24u);
+    goto v398;
+v337:;
+    u64 v344 = v343 + v327;
+    u8 *v345 = at(ptr, v4);
+    u64 v346 = (u64)v345;
+    if (!((((u64)(v345 + (i64)v343)) - ((u64)v324)) < v327)) goto v353;
+    if (v327 < 4) { v389 = 0; goto v355; }
+    if (((v343 + v346) - v325) < 32u) { v389 = 0; goto v355; }
+    if (v327 < 16u) { v378 = 0; goto v362; }
+    u64 v364 = v327 & 12u;
+    u64 v365 = v327 & 0xfffffffffffffff0u;
+    v367 = 0;
+v366:;
+    at(u8x16_1, (v345 + (i64)v343) + v367) = at(u8x16_1, v324 + v367);
+    u64 v368 = v367 + 16u;
+    if (!(v368 == v365)) { v367 = v368; goto v366; }
+    if (v327 == v365) goto v375;
+    if (v364 == 0) { v389 = v365; goto v355; }
+    v378 = v365;
+v362:;
+    u64 v379 = v327 & 0xfffffffffffffffcu;
+    v381 = v378;
+v380:;
+    at(u8x4_1, (v345 + (i64)v343) + v381) = at(u8x4_1, v324 + v381);
+    u64 v382 = v381 + 4;
+    if (!(v382 == v379)) { v381 = v382; goto v380; }
+    if (v327 == v379) goto v375;
+    v389 = v379;
+v355:;
+    v391 = v389;
+v390:;
+    at(u8, (v345 + (i64)v343) + v391) = at(u8, v324 + v391);
+    u64 v392 = v391 + 1;
+    if (v392 == v327) goto v375;
+    v391 = v392; goto v390;
+v353:;
+    memmove_any(v345 + (i64)v343, v324, v327);
+v375:;
+    at(u64, v4 + 8) = v344;
+    at(u64, v4 + 16) = v342;
+    memcpy(v5, v4, 24u);
+    memcpy(v0, v5, 24u);
+    return 0;
+v331:;
+    u8 v399 = core_fmt_formatter_Formatter_write_indented_04f0(v4, v324, v327);
+    memcpy(v5, v4, 24u);
+    memcpy(v0, v5, 24u);
+    if (v399 == 0) return 0;
+v398:;
+    u8 *v401 = at(ptr, v0);
+    u64 v402 = at(u64, v0 + 8);
+    if (!((v7 == 0) | (v7 == v402))) goto v407;
+    if (v402 > v7) goto v415;
+    return 1;
+v407:;
+    if (v402 < v7) return 1;
+    if (!((v402 > v7) & ((i8)at(u8, v401 + v7) > (i8)191u))) return 1;
+v415:;
     at(u64, v0 + 8) = v7;
     return 1;
 }

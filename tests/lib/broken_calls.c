@@ -6,10 +6,8 @@
 
 enum { NOTHING, SHORT_SET, LEAN_CUT, SHORT_JOIN, YES };
 
-fontcut_answer __real_fontcut_subset_size(uint32_t kind, const uint8_t *font, size_t font_length,
-                                          const fontcut_range *ranges, size_t range_count);
-fontcut_answer __real_fontcut_subset(uint32_t kind, const uint8_t *font, size_t font_length,
-                                     const fontcut_range *ranges, size_t range_count, uint8_t *out, size_t room);
+fontcut_answer __real_fontcut_subset(const fontcut_request *request, const uint8_t *font, size_t font_length,
+                                     uint8_t *out, size_t room);
 fontcut_answer __real_fontcut_belongs(uint32_t kind, const uint8_t *cut, size_t cut_length, const uint8_t *font,
                                       size_t font_length);
 fontcut_answer __real_fontcut_join(uint32_t kind, const fontcut_bytes *files, size_t file_count, uint8_t *out,
@@ -21,28 +19,19 @@ static int broken(uint32_t kind)
     return word && of && kind == (uint32_t)atoi(of) ? atoi(word) : NOTHING;
 }
 
-static uint32_t made_kind(uint32_t kind)
-{
-    return broken(kind) == LEAN_CUT ? FONTCUT_LEAN : kind;
-}
-
 static size_t less(size_t count, int is_less)
 {
     return count > 1 && is_less ? count - 1 : count;
 }
 
-fontcut_answer __wrap_fontcut_subset_size(uint32_t kind, const uint8_t *font, size_t font_length,
-                                          const fontcut_range *ranges, size_t range_count)
+fontcut_answer __wrap_fontcut_subset(const fontcut_request *request, const uint8_t *font, size_t font_length,
+                                     uint8_t *out, size_t room)
 {
-    return __real_fontcut_subset_size(made_kind(kind), font, font_length, ranges,
-                                      less(range_count, broken(kind) == SHORT_SET));
-}
-
-fontcut_answer __wrap_fontcut_subset(uint32_t kind, const uint8_t *font, size_t font_length,
-                                     const fontcut_range *ranges, size_t range_count, uint8_t *out, size_t room)
-{
-    return __real_fontcut_subset(made_kind(kind), font, font_length, ranges,
-                                 less(range_count, broken(kind) == SHORT_SET), out, room);
+    fontcut_request made = *request;
+    if (broken(request->kind) == LEAN_CUT)
+        made.kind = FONTCUT_LEAN;
+    made.range_count = less(request->range_count, broken(request->kind) == SHORT_SET);
+    return __real_fontcut_subset(&made, font, font_length, out, room);
 }
 
 fontcut_answer __wrap_fontcut_belongs(uint32_t kind, const uint8_t *cut, size_t cut_length, const uint8_t *font,

@@ -1,7 +1,7 @@
 """Fonts that are made of a font by small changes, all their sums right, but where tags or places are changed."""
 import struct
 from typing import Mapping, Optional
-from font_cutting import assembled, cmap_table, cut, groups_of, ranges, whole_map
+from font_cutting import Group, assembled, cmap_table, cut, groups_of, ranges, whole_map
 from font_reading import offset, records_of, table, tables_of, u16
 
 
@@ -26,6 +26,16 @@ def with_bytes(file: bytes, places: Mapping[bytes, int]) -> bytes:
 def with_codes(file: bytes, codes: Mapping[int, int]) -> bytes:
     """The font with some codes on other glyphs."""
     return with_tables(file, {b"cmap": cmap_table(groups_of({**whole_map(file), **codes}))})
+
+
+def with_all_codes(file: bytes, count: int) -> bytes:
+    """The font with so many glyphs, which are empty, and each code on one of them."""
+    step = count - 1
+    groups = [Group(first, min(first + step, 0x110000) - 1, 1) for first in range(0, 0x110000, step)]
+    maxp, hhea = table(file, b"maxp"), table(file, b"hhea")
+    return with_tables(file, {
+        b"cmap": cmap_table(groups), b"maxp": maxp[:4] + struct.pack(">H", count) + maxp[6:],
+        b"hhea": hhea[:34] + struct.pack(">H", 1), b"hmtx": bytes(2 * count + 2), b"loca": bytes(2 * count + 2)})
 
 
 def without_code(file: bytes, code: int) -> bytes:

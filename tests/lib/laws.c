@@ -136,31 +136,29 @@ static void let_go(uint8_t *at)
         free(at - GUARD);
 }
 
-/* The call for the size of a cut for a set. */
-static fontcut_answer size_for(fontcut_kind kind, bytes of, const set *wanted)
+/* The request for a set. */
+static fontcut_request request_for(fontcut_kind kind, const set *wanted)
 {
-    if (wanted->is_exact)
-        return fontcut_subset_glyphs_size(kind, of.at, of.length, wanted->ranges, wanted->count, wanted->glyphs,
-                                          wanted->glyph_count);
-    return fontcut_subset_size(kind, of.at, of.length, wanted->ranges, wanted->count);
+    return (fontcut_request){sizeof(fontcut_request), kind, wanted->is_exact ? 0 : FONTCUT_CLOSES, wanted->ranges,
+                             wanted->count, wanted->glyphs, wanted->glyph_count};
 }
 
 /* The call for a cut for a set. */
 static fontcut_answer cut_into(fontcut_kind kind, bytes of, const set *wanted, uint8_t *out, size_t room)
 {
-    if (wanted->is_exact)
-        return fontcut_subset_glyphs(kind, of.at, of.length, wanted->ranges, wanted->count, wanted->glyphs,
-                                     wanted->glyph_count, out, room);
-    return fontcut_subset(kind, of.at, of.length, wanted->ranges, wanted->count, out, room);
+    fontcut_request request = request_for(kind, wanted);
+    return fontcut_subset(&request, of.at, of.length, out, room);
 }
 
 /* The cut of a file for a set; the laws of one cut are asked meanwhile. There are no bytes where it is refused. */
 static bytes cut_of(fontcut_kind kind, bytes of, set asked)
 {
     set wanted = wanted_for(kind, asked);
-    fontcut_answer size = size_for(kind, of, &wanted);
+    fontcut_answer size = cut_into(kind, of, &wanted, NULL, 0);
     bytes made = {guarded(size.size), size.size};
     fontcut_answer cut = cut_into(kind, of, &wanted, made.at, made.length);
+    if (size.status == FONTCUT_SMALL_ROOM)
+        size.status = FONTCUT_DONE;
     holds(same_answer(size, cut), kind, "the size that is told is that of the cut");
     holds(is_filled(made.at - GUARD, GUARD) && is_filled(made.at + made.length, GUARD), kind,
           "nothing is written outside a room");
@@ -236,26 +234,32 @@ static fontcut_answer refusal_of(fontcut_kind kind, bytes file)
 /* Whether links are followed in a file for cuts of a kind, and its GSUB cannot be read. */
 static int has_bad_links(fontcut_kind kind, bytes file)
 {
-    return fontcut_subset_size(kind, file.at, file.length, NULL, 0).status == FONTCUT_BAD_LAYOUT;
+    const set nothing = {.count = 0};
+    return cut_into(kind, file, &nothing, NULL, 0).status == FONTCUT_BAD_LAYOUT;
+}
+
+/* The request for the codes of a set and for other glyphs, without links. */
+static fontcut_request request_with(fontcut_kind kind, const set *wanted, const uint16_t *glyphs, size_t count)
+{
+    return (fontcut_request){sizeof(fontcut_request), kind, 0, wanted->ranges, wanted->count, glyphs, count};
 }
 
 /* The laws of the closure of a set in a font, whose cut for the codes is given, and of what that keeps. */
 static void ask_closure(fontcut_kind kind, bytes of, set wanted, bytes made)
 {
     uint16_t *closed = room_of(2 * ALL_NUMBERS * sizeof *closed), *again = closed + ALL_NUMBERS;
-    fontcut_answer first = fontcut_closure(kind, of.at, of.length, wanted.ranges, wanted.count, NULL, 0, closed,
-                                           ALL_NUMBERS);
-    fontcut_answer second = fontcut_closure(kind, of.at, of.length, wanted.ranges, wanted.count, closed, first.size,
-                                            again, ALL_NUMBERS);
+    fontcut_request request = request_with(kind, &wanted, NULL, 0);
+    fontcut_answer first = fontcut_closure(&request, of.at, of.length, closed, ALL_NUMBERS);
+    request = request_with(kind, &wanted, closed, first.size);
+    fontcut_answer second = fontcut_closure(&request, of.at, of.length, again, ALL_NUMBERS);
     holds(first.status == FONTCUT_DONE && same_answer(first, second)
               && memcmp(closed, again, first.size * sizeof *closed) == 0, kind, "a closure is its own closure");
     bytes exact = {guarded(made.length), made.length};
-    fontcut_subset_glyphs(kind, of.at, of.length, wanted.ranges, wanted.count, closed, first.size, exact.at,
-                          exact.length);
+    fontcut_subset(&request, of.at, of.length, exact.at, exact.length);
     holds(same_bytes(exact, made), kind, "a cut for codes is the cut for their closure");
     fontcut_answer kept = fontcut_kept(kind, made.at, made.length, again, ALL_NUMBERS);
-    fontcut_subset_glyphs(kind, of.at, of.length, wanted.ranges, wanted.count, again, kept.size, exact.at,
-                          exact.length);
+    request = request_with(kind, &wanted, again, kept.size);
+    fontcut_subset(&request, of.at, of.length, exact.at, exact.length);
     holds(kept.status == FONTCUT_DONE && same_bytes(exact, made), kind,
           "a cut is the cut for its codes and for the glyphs that it keeps");
     let_go(exact.at);
@@ -342,8 +346,8 @@ static int glyphs_differ(bytes x, bytes y, uint16_t glyph)
 {
     size_t lengths[2], in_x = outline_at(x, glyph, lengths), in_y = outline_at(y, glyph, lengths + 1);
     fontcut_metric metrics[2] = {{0, 0}, {0, 0}};
-    fontcut_metrics(x.at, x.length, &glyph, 1, metrics, 1);
-    fontcut_metrics(y.at, y.length, &glyph, 1, metrics + 1, 1);
+    fontcut_metrics(0, x.at, x.length, &glyph, 1, metrics, 1);
+    fontcut_metrics(0, y.at, y.length, &glyph, 1, metrics + 1, 1);
     return lengths[0] != lengths[1] || memcmp(x.at + in_x, y.at + in_y, lengths[0]) != 0
         || memcmp(metrics, metrics + 1, sizeof *metrics) != 0 || tables_differ(x, y, "vmtx");
 }
@@ -361,8 +365,8 @@ static int do_differ(fontcut_kind kind, bytes x, bytes y, fontcut_answer refusal
         return glyphs_differ(x, y, (uint16_t)named)
             || (kind == FONTCUT_VARIABLE && data_differ(x, y, (uint16_t)named));
     uint16_t glyphs[2] = {0, 0};
-    fontcut_glyphs(x.at, x.length, &named, 1, glyphs, 1);
-    fontcut_glyphs(y.at, y.length, &named, 1, glyphs + 1, 1);
+    fontcut_glyphs(0, x.at, x.length, &named, 1, glyphs, 1);
+    fontcut_glyphs(0, y.at, y.length, &named, 1, glyphs + 1, 1);
     return glyphs[0] && glyphs[1] && glyphs[0] != glyphs[1];
 }
 
@@ -403,17 +407,16 @@ static void ask_closing_refused(fontcut_kind kind, bytes file, set wanted, fontc
 {
     uint8_t out[GUARD];
     uint16_t closed[GUARD];
-    uint64_t count = wanted.count, size;
+    uint64_t size;
     memset(out, FILL, sizeof out);
     memset(closed, FILL, sizeof closed);
     memset(&size, FILL, sizeof size);
-    holds(same_answer(fontcut_subset_size(kind, file.at, file.length, wanted.ranges, wanted.count), refusal)
-              && same_answer(fontcut_subset(kind, file.at, file.length, wanted.ranges, wanted.count, out, GUARD),
-                             refusal)
-              && same_answer(fontcut_cuts(kind, file.at, file.length, wanted.ranges, wanted.count, &count, 1, out,
-                                          GUARD, &size, 1), refusal)
-              && same_answer(fontcut_closure(kind, file.at, file.length, wanted.ranges, wanted.count, NULL, 0, closed,
-                                             GUARD), refusal),
+    wanted.is_exact = 0;
+    wanted.glyph_count = 0;
+    fontcut_request request = request_for(kind, &wanted);
+    holds(same_answer(fontcut_subset(&request, file.at, file.length, out, GUARD), refusal)
+              && same_answer(fontcut_subsets(&request, 1, file.at, file.length, out, GUARD, &size, 1), refusal)
+              && same_answer(fontcut_closure(&request, file.at, file.length, closed, GUARD), refusal),
           kind, "each call that follows links refuses a file alike");
     holds(is_filled(out, GUARD) && is_filled((const uint8_t *)&size, sizeof size)
               && is_filled((const uint8_t *)closed, sizeof closed), kind, "a refusal leaves the room as it was");
@@ -426,10 +429,8 @@ static void ask_refused(fontcut_kind kind, bytes file, set wanted, fontcut_answe
     uint8_t out[GUARD];
     memset(out, FILL, sizeof out);
     fontcut_bytes list = {file.at, file.length};
-    holds((kind == FONTCUT_FULL
-           || (same_answer(fontcut_subset_glyphs_size(kind, file.at, file.length, NULL, 0, NULL, 0), refusal)
-               && same_answer(fontcut_subset_glyphs(kind, file.at, file.length, NULL, 0, NULL, 0, out, GUARD),
-                              refusal)))
+    const set nothing = {.is_exact = 1};
+    holds(same_answer(cut_into(kind, file, &nothing, out, GUARD), refusal)
               && same_answer(fontcut_cut_form(kind, file.at, file.length), refusal)
               && same_answer(fontcut_belongs(kind, file.at, file.length, file.at, file.length), refusal)
               && same_answer(fontcut_join(kind, &list, 1, out, GUARD), refusal),

@@ -1,26 +1,26 @@
 /* Does the calls of fontcut.h that the lines of standard input ask for, in C99 and in C++17, and prints each answer:
  *
  *     check FONT
- *     size KIND FONT RANGES..         KIND is a number; a range is FIRST-LAST, in hexadecimal digits
- *     cut KIND FONT OUT ROOM RANGES.. ROOM is a number of bytes, or - for just as many as are needed
- *     cuts KIND FONT OUT ROOM PLACES SETS..
- *                                     a set is the word + and its ranges; +N gives it a count that is N larger than
- *                                     that; PLACES is a number of sizes, or - for just as many as there are sets; OUT
+ *     cut FONT OUT ROOM REQUEST       ROOM is a number of bytes, or - for just as many as are needed. A request is the
+ *                                     word +KIND,FLAGS,MORE,GLYPHS and its ranges, FIRST-LAST in hexadecimal digits.
+ *                                     KIND and FLAGS are numbers, its struct_size is MORE larger than it should be, and
+ *                                     GLYPHS is a file of numbers of 16 bits, or nothing
+ *     cuts FONT OUT ROOM PLACES REQUESTS..
+ *                                     PLACES is a number of sizes, or - for just as many as there are requests; OUT
  *                                     gets the sizes, as numbers of 64 bits, and then the cuts
- *     exact_size KIND FONT GLYPHS RANGES..
- *     exact_cut KIND FONT OUT ROOM GLYPHS RANGES..
- *     exact_cuts KIND FONT OUT ROOM PLACES GLYPHS COUNTS SETS..
- *                                     the same for glyphs too; GLYPHS and COUNTS are files of numbers of 16 and 64 bits
- *     closure KIND FONT OUT ROOM GLYPHS RANGES..
- *                                     OUT gets numbers of 16 bits; ROOM is a number of glyphs
+ *     closure FONT OUT ROOM REQUEST   OUT gets numbers of 16 bits; ROOM is a number of glyphs
  *     kept KIND FONT OUT ROOM         the same
  *     form KIND FONT
  *     belongs KIND CUT FONT
  *     join KIND OUT ROOM FILES..
  *     codes FONT OUT ROOM             OUT gets a line for each range; ROOM is a number of ranges
- *     glyphs FONT CODES OUT ROOM      CODES and OUT are files of numbers of 32 and 16 bits, in this machine's order of
+ *     needed TEXT OUT ROOM            the same, of a text
+ *     ranges LIST OUT ROOM            the same, of a list
+ *     glyphs FLAGS FONT CODES OUT ROOM
+ *                                     CODES and OUT are files of numbers of 32 and 16 bits, in this machine's order of
  *                                     bytes; ROOM is a number of glyphs
- *     metrics FONT GLYPHS OUT ROOM    the same, of glyphs and their metrics
+ *     metrics FLAGS FONT GLYPHS OUT ROOM
+ *                                     the same, of glyphs and their metrics
  *     info FONT OUT                   OUT gets the bytes of the numbers
  *     nothing KIND FONT               each call with areas of no bytes, for the font where it takes one: prints `same`
  *                                     where it answers the same for NULL and for an address
@@ -28,10 +28,9 @@
  *     text STATUS DETAIL SIZE STEP    also prints the text
  *
  * Each room lies between guards, and the answer is followed by `touched` where a byte was written that should not be.
- * For the kind 0 the deprecated call of the same meaning is made too, and `otherwise` stands before the answer where
- * that one answers or writes something else.
+ * What has the flag FONTCUT_CHECKED is asked with it too where the font is accepted, a cut with no room and as the one
+ * of many, and a closure with FONTCUT_CLOSES: `otherwise` stands before an answer that is not the same then.
  * With the argument N the whole of standard input is done in N threads at once, and only the first of them prints. */
-#define FONTCUT_DEPRECATED(text)
 #include "fontcut.h"
 
 #include <inttypes.h>
@@ -111,15 +110,11 @@ static void say(int is_first, fontcut_answer answer, int is_whole)
                answer.step, is_whole ? "" : " touched");
 }
 
-static size_t ranges_of(char **words, int count, fontcut_range *ranges)
+static void read_range(const char *word, fontcut_range *range)
 {
-    int i;
-    for (i = 0; i < count; i++) {
-        char *rest;
-        ranges[i].first = (uint32_t)strtoul(words[i], &rest, 16);
-        ranges[i].last = (uint32_t)strtoul(rest + 1, NULL, 16);
-    }
-    return (size_t)count;
+    char *rest;
+    range->first = (uint32_t)strtoul(word, &rest, 16);
+    range->last = (uint32_t)strtoul(rest + 1, NULL, 16);
 }
 
 static size_t room_of(const char *word, uint64_t needed)
@@ -130,14 +125,6 @@ static size_t room_of(const char *word, uint64_t needed)
 static int is_same(fontcut_answer one, fontcut_answer other)
 {
     return one.status == other.status && one.detail == other.detail && one.size == other.size && one.step == other.step;
-}
-
-/* Prints an answer, and whether the deprecated call answers the same. */
-static void say_both(int is_first, fontcut_answer answer, fontcut_answer other)
-{
-    if (is_first && !is_same(answer, other))
-        printf("otherwise ");
-    say(is_first, answer, 1);
 }
 
 static uint32_t kind_of(const char *word)
@@ -151,172 +138,121 @@ static int is_accepted(file font)
     return fontcut_check(font.at, font.length).status == FONTCUT_DONE;
 }
 
-/* What is wanted of a font: the codes of ranges, or where there is a list of glyphs these codes and glyphs alone. */
-typedef struct request {
-    uint32_t kind;
+/* A font, what is wanted of it by each of some requests, and what these point to. */
+typedef struct question {
     file font;
-    fontcut_range ranges[WORDS];
+    fontcut_request requests[WORDS];
     size_t count;
-    file list;
-    const uint16_t *glyphs;
-    size_t glyph_count;
-} request;
+    fontcut_range ranges[WORDS];
+    file lists[WORDS];
+} question;
 
-/* Reads a kind, a font, the path of a list of glyphs or NULL, and ranges. */
-static void read_request(request *asked, const char *kind, const char *font, const char *list, char **words, int count)
+/* Begins a request, of the word that it begins with. */
+static void begin_request(question *asked, const char *word)
 {
-    const file none = {NULL, 0};
-    asked->kind = kind_of(kind);
+    fontcut_request *request = asked->requests + asked->count;
+    file *list = asked->lists + asked->count++;
+    char *rest;
+    memset(request, 0, sizeof *request);
+    request->kind = (uint32_t)strtoul(word + 1, &rest, 10);
+    request->flags = (uint32_t)strtoul(rest + 1, &rest, 10);
+    request->struct_size = sizeof *request + (size_t)strtoll(rest + 1, &rest, 10);
+    memset(list, 0, sizeof *list);
+    if (!rest[1])
+        return;
+    *list = read_file(rest + 1);
+    request->glyphs = (const uint16_t *)(const void *)list->at;
+    request->glyph_count = list->length / sizeof(uint16_t);
+}
+
+/* Reads a font and requests, which it returns. They are freed by free_question. */
+static question *read_question(const char *font, char **words, int count)
+{
+    question *asked = (question *)got(sizeof *asked);
+    int i;
     asked->font = read_file(font);
-    asked->list = list ? read_file(list) : none;
-    asked->glyphs = (const uint16_t *)(const void *)asked->list.at;
-    asked->glyph_count = asked->list.length / sizeof(uint16_t);
-    asked->count = ranges_of(words, count, asked->ranges);
+    asked->count = 0;
+    for (i = 0; i < count; i++)
+        if (words[i][0] == '+') {
+            begin_request(asked, words[i]);
+            asked->requests[asked->count - 1].ranges = asked->ranges + i + 1;
+        } else {
+            read_range(words[i], asked->ranges + i);
+            asked->requests[asked->count - 1].range_count++;
+        }
+    return asked;
 }
 
-static void free_request(request *asked)
+static void free_question(question *asked)
 {
+    size_t i;
+    for (i = 0; i < asked->count; i++)
+        free(asked->lists[i].at);
     free(asked->font.at);
-    free(asked->list.at);
+    free(asked);
 }
 
-static fontcut_answer size_for(const request *asked, int is_checked)
+/* Whether a request with other flags is answered in the same way, and writes the same. */
+static int is_same_with(const question *asked, uint32_t flags, fontcut_answer answer, const uint8_t *out, size_t room)
 {
-    const file font = asked->font;
-    if (asked->glyphs)
-        return (is_checked ? fontcut_subset_glyphs_size_checked : fontcut_subset_glyphs_size)(
-            asked->kind, font.at, font.length, asked->ranges, asked->count, asked->glyphs, asked->glyph_count);
-    return (is_checked ? fontcut_subset_size_checked : fontcut_subset_size)(asked->kind, font.at, font.length,
-                                                                            asked->ranges, asked->count);
-}
-
-static fontcut_answer cut_for(const request *asked, int is_checked, uint8_t *out, size_t room)
-{
-    const file font = asked->font;
-    if (asked->glyphs)
-        return (is_checked ? fontcut_subset_glyphs_checked : fontcut_subset_glyphs)(
-            asked->kind, font.at, font.length, asked->ranges, asked->count, asked->glyphs, asked->glyph_count, out,
-            room);
-    return (is_checked ? fontcut_subset_checked : fontcut_subset)(asked->kind, font.at, font.length, asked->ranges,
-                                                                  asked->count, out, room);
-}
-
-/* Whether there is a deprecated call of the same meaning. */
-static int has_old(const request *asked)
-{
-    return asked->kind == FONTCUT_FULL && !asked->glyphs;
-}
-
-static void do_size(int is_first, const request *asked)
-{
-    const file font = asked->font;
-    fontcut_answer answer = size_for(asked, 0);
-    if (is_first && is_accepted(font) && !is_same(answer, size_for(asked, 1)))
-        printf("otherwise checked ");
-    say_both(is_first, answer,
-             has_old(asked) ? fontcut_cut_size(font.at, font.length, asked->ranges, asked->count) : answer);
-}
-
-/* Whether the deprecated call answers and writes the same. */
-static int is_old_cut_same(const request *asked, fontcut_answer answer, const uint8_t *out, size_t room)
-{
-    const file font = asked->font;
+    fontcut_request request = asked->requests[0];
     uint8_t *other = guarded(room);
-    int same = is_same(answer, fontcut_cut(font.at, font.length, asked->ranges, asked->count, other, room)) &&
-               !memcmp(out - GUARD, other - GUARD, room + 2 * GUARD);
+    int same;
+    request.flags |= flags;
+    same = is_same(answer, fontcut_subset(&request, asked->font.at, asked->font.length, other, room)) &&
+           !memcmp(out - GUARD, other - GUARD, room + 2 * GUARD);
     free(other - GUARD);
     return same;
 }
 
-/* Whether the call for a font that was checked answers and writes the same. */
-static int is_checked_cut_same(const request *asked, fontcut_answer answer, const uint8_t *out, size_t room)
+/* Whether the call for many requests answers and writes the same for one. */
+static int is_same_of_many(const question *asked, fontcut_answer answer, const uint8_t *out, size_t room)
 {
+    uint64_t size = answer.size;
     uint8_t *other = guarded(room);
-    int same = is_same(answer, cut_for(asked, 1, other, room)) &&
-               !memcmp(out - GUARD, other - GUARD, room + 2 * GUARD);
+    int same = is_same(answer, fontcut_subsets(asked->requests, 1, asked->font.at, asked->font.length, other, room,
+                                               &size, 1)) &&
+               size == answer.size && !memcmp(out - GUARD, other - GUARD, room + 2 * GUARD);
     free(other - GUARD);
     return same;
 }
 
-static void do_cut(int is_first, const request *asked, const char *path, const char *word)
+static void do_cut(int is_first, char **words, int count)
 {
-    size_t room = room_of(word, size_for(asked, 0).size);
+    question *asked = read_question(words[1], words + 4, count - 4);
+    const file font = asked->font;
+    fontcut_answer measured = fontcut_subset(asked->requests, font.at, font.length, NULL, 0), answer;
+    size_t room = room_of(words[3], measured.size), written;
     uint8_t *out = guarded(room);
-    fontcut_answer answer = cut_for(asked, 0, out, room);
-    size_t written = answer.status ? 0 : (size_t)answer.size;
-    if (is_first && has_old(asked) && !is_old_cut_same(asked, answer, out, room))
-        printf("otherwise ");
-    if (is_first && is_accepted(asked->font) && !is_checked_cut_same(asked, answer, out, room))
+    answer = fontcut_subset(asked->requests, font.at, font.length, out, room);
+    written = answer.status ? 0 : (size_t)answer.size;
+    if (is_first && (measured.size != answer.size || (answer.status && measured.status != answer.status)))
+        printf("otherwise measured ");
+    if (is_first && !is_same_of_many(asked, answer, out, room))
+        printf("otherwise of many ");
+    if (is_first && is_accepted(font) && !is_same_with(asked, FONTCUT_CHECKED, answer, out, room))
         printf("otherwise checked ");
     say(is_first, answer, is_untouched(out, written, room));
     if (is_first)
-        write_file(path, out, written);
+        write_file(words[2], out, written);
     free(out - GUARD);
+    free_question(asked);
 }
 
-/* Reads sets, as many as are returned: their ranges and how many each of them has. Ranges before the first set are of
- * none. */
-static size_t sets_of(char **words, int count, fontcut_range *ranges, size_t *given, uint64_t *counts)
+static void do_cuts(int is_first, char **words, int count)
 {
-    size_t sets = 0;
-    int i;
-    *given = 0;
-    for (i = 0; i < count; i++)
-        if (words[i][0] == '+')
-            counts[sets++] = strtoull(words[i] + 1, NULL, 10);
-        else {
-            *given += ranges_of(words + i, 1, ranges + *given);
-            if (sets)
-                counts[sets - 1]++;
-        }
-    return sets;
-}
-
-/* What is wanted of a font by many sets: their ranges, and where there is a list of glyphs these too and alone. */
-typedef struct requests {
-    uint32_t kind;
-    file font;
-    fontcut_range ranges[WORDS];
-    uint64_t counts[WORDS];
-    size_t given, sets;
-    file list, list_counts;
-} requests;
-
-/* Reads a kind, a font, the paths of a list of glyphs and of their counts, or NULL, and sets. */
-static void read_requests(requests *asked, char **words, const char *list, const char *list_counts, char **sets,
-                          int count)
-{
-    const file none = {NULL, 0};
-    asked->kind = kind_of(words[1]);
-    asked->font = read_file(words[2]);
-    asked->list = list ? read_file(list) : none;
-    asked->list_counts = list ? read_file(list_counts) : none;
-    asked->sets = sets_of(sets, count, asked->ranges, &asked->given, asked->counts);
-}
-
-static fontcut_answer cuts_for(const requests *asked, uint8_t *out, size_t room, uint8_t *sizes, size_t places)
-{
-    const file font = asked->font, list = asked->list, list_counts = asked->list_counts;
-    uint64_t *told = (uint64_t *)(void *)sizes;
-    if (list.at)
-        return fontcut_cuts_glyphs(asked->kind, font.at, font.length, asked->ranges, asked->given, asked->counts,
-                                   asked->sets, (const uint16_t *)(const void *)list.at,
-                                   list.length / sizeof(uint16_t), (const uint64_t *)(const void *)list_counts.at,
-                                   list_counts.length / sizeof(uint64_t), out, room, told, places);
-    return fontcut_cuts(asked->kind, font.at, font.length, asked->ranges, asked->given, asked->counts, asked->sets, out,
-                        room, told, places);
-}
-
-static void do_cuts(int is_first, const requests *asked, char **words)
-{
-    size_t places = (size_t)room_of(words[5], asked->sets), told = places * sizeof(uint64_t), room, written;
+    question *asked = read_question(words[1], words + 5, count - 5);
+    const file font = asked->font;
+    size_t places = room_of(words[4], asked->count), told = places * sizeof(uint64_t), room, written;
     uint8_t *sizes = guarded(told), *out = guarded(0), *both;
-    fontcut_answer answer = cuts_for(asked, out, 0, sizes, places);
+    uint64_t *numbers = (uint64_t *)(void *)sizes;
+    fontcut_answer answer =
+        fontcut_subsets(asked->requests, asked->count, font.at, font.length, out, 0, numbers, places);
     int is_whole = is_untouched(out, 0, 0) && is_untouched(sizes, 0, told);
     free(out - GUARD);
-    room = room_of(words[4], answer.size);
+    room = room_of(words[3], answer.size);
     out = guarded(room);
-    answer = cuts_for(asked, out, room, sizes, places);
+    answer = fontcut_subsets(asked->requests, asked->count, font.at, font.length, out, room, numbers, places);
     written = answer.status ? 0 : (size_t)answer.size;
     told = answer.status ? 0 : told;
     is_whole = is_whole && is_untouched(out, written, room) && is_untouched(sizes, told, places * sizeof(uint64_t));
@@ -325,30 +261,18 @@ static void do_cuts(int is_first, const requests *asked, char **words)
     memcpy(both, sizes, told);
     memcpy(both + told, out, written);
     if (is_first)
-        write_file(words[3], both, told + written);
+        write_file(words[2], both, told + written);
     free(both);
     free(out - GUARD);
     free(sizes - GUARD);
-}
-
-static void do_requests(int is_first, char **words, int count)
-{
-    int is_exact = words[0][0] == 'e', begin = is_exact ? 8 : 6;
-    requests *asked = (requests *)got(sizeof *asked);
-    read_requests(asked, words, is_exact ? words[6] : NULL, is_exact ? words[7] : NULL, words + begin, count - begin);
-    do_cuts(is_first, asked, words);
-    free(asked->font.at);
-    free(asked->list.at);
-    free(asked->list_counts.at);
-    free(asked);
+    free_question(asked);
 }
 
 static void do_form(int is_first, char **words)
 {
     uint32_t kind = kind_of(words[1]);
     file font = read_file(words[2]);
-    fontcut_answer answer = fontcut_cut_form(kind, font.at, font.length);
-    say_both(is_first, answer, kind ? answer : fontcut_is_cut(font.at, font.length));
+    say(is_first, fontcut_cut_form(kind, font.at, font.length), 1);
     free(font.at);
 }
 
@@ -356,21 +280,9 @@ static void do_belongs(int is_first, char **words)
 {
     uint32_t kind = kind_of(words[1]);
     file cut = read_file(words[2]), font = read_file(words[3]);
-    fontcut_answer answer = fontcut_belongs(kind, cut.at, cut.length, font.at, font.length);
-    say_both(is_first, answer, kind ? answer : fontcut_is_cut_of(cut.at, cut.length, font.at, font.length));
+    say(is_first, fontcut_belongs(kind, cut.at, cut.length, font.at, font.length), 1);
     free(cut.at);
     free(font.at);
-}
-
-/* Whether the deprecated call answers and writes the same. */
-static int is_old_join_same(const fontcut_bytes *files, size_t given, fontcut_answer answer, const uint8_t *out,
-                            size_t room)
-{
-    uint8_t *other = guarded(room);
-    int same = is_same(answer, fontcut_join_all(files, given, other, room)) &&
-               !memcmp(out - GUARD, other - GUARD, room + 2 * GUARD);
-    free(other - GUARD);
-    return same;
 }
 
 static void do_join(int is_first, char **words, int count)
@@ -391,8 +303,6 @@ static void do_join(int is_first, char **words, int count)
     free(out - GUARD);
     out = guarded(room);
     answer = fontcut_join(kind, files, given, out, room);
-    if (is_first && kind == FONTCUT_FULL && !is_old_join_same(files, given, answer, out, room))
-        printf("otherwise ");
     say(is_first, answer, is_untouched(out, answer.status ? 0 : (size_t)answer.size, room));
     if (is_first)
         write_file(words[2], out, answer.status ? 0 : (size_t)answer.size);
@@ -402,27 +312,38 @@ static void do_join(int is_first, char **words, int count)
     free(files);
 }
 
-static void do_codes(int is_first, char **words)
+/* Says an answer whose room has ranges, and writes these to a file as lines. */
+static void say_ranges(int is_first, fontcut_answer answer, const char *path, const uint8_t *out, size_t room)
 {
-    file font = read_file(words[1]);
-    size_t room = (size_t)strtoull(words[3], NULL, 10), i, bytes = room * sizeof(fontcut_range);
-    uint8_t *out = guarded(bytes);
-    fontcut_answer answer = fontcut_codes(font.at, font.length, (fontcut_range *)(void *)out, room);
-    size_t written = answer.status ? 0 : (size_t)answer.size;
-    say(is_first, answer, is_untouched(out, written * sizeof(fontcut_range), bytes));
-    if (is_first) {
-        FILE *to = fopen(words[2], "wb");
-        for (i = 0; to && i < written; i++) {
-            fontcut_range range;
-            memcpy(&range, out + i * sizeof range, sizeof range);
-            fprintf(to, range.first == range.last ? "U+%" PRIX32 "\n" : "U+%" PRIX32 "-%" PRIX32 "\n", range.first,
-                    range.last);
-        }
-        if (!to || fclose(to))
-            exit(3);
+    size_t i, written = answer.status ? 0 : (size_t)answer.size;
+    FILE *to;
+    say(is_first, answer, is_untouched(out, written * sizeof(fontcut_range), room * sizeof(fontcut_range)));
+    if (!is_first)
+        return;
+    to = fopen(path, "wb");
+    for (i = 0; to && i < written; i++) {
+        fontcut_range range;
+        memcpy(&range, out + i * sizeof range, sizeof range);
+        fprintf(to, range.first == range.last ? "U+%" PRIX32 "\n" : "U+%" PRIX32 "-%" PRIX32 "\n", range.first,
+                range.last);
     }
+    if (!to || fclose(to))
+        exit(3);
+}
+
+/* The calls that write ranges: of a font, of a text and of a list. */
+static void do_ranges(int is_first, char **words)
+{
+    file given = read_file(words[1]);
+    size_t room = (size_t)strtoull(words[3], NULL, 10);
+    uint8_t *out = guarded(room * sizeof(fontcut_range));
+    fontcut_range *ranges = (fontcut_range *)(void *)out;
+    fontcut_answer answer = words[0][0] == 'c'   ? fontcut_codes(given.at, given.length, ranges, room)
+                            : words[0][0] == 'n' ? fontcut_needed(given.at, given.length, ranges, room)
+                                                 : fontcut_ranges(given.at, given.length, ranges, room);
+    say_ranges(is_first, answer, words[2], out, room);
     free(out - GUARD);
-    free(font.at);
+    free(given.at);
 }
 
 /* Says an answer and whether its room holds so many bytes and no other was touched, and writes these to a file. */
@@ -435,41 +356,32 @@ static void say_filled(int is_first, fontcut_answer answer, const char *path, co
         write_file(path, out, written);
 }
 
-static void do_glyphs(int is_first, char **words)
+/* The calls that look up a number for each of a list: glyphs of codes, and metrics of glyphs. */
+static fontcut_answer look_up(char **words, uint32_t flags, file font, file given, uint8_t *out, size_t room)
 {
-    file font = read_file(words[1]), codes = read_file(words[2]);
-    size_t room = (size_t)strtoull(words[4], NULL, 10), count = codes.length / sizeof(uint32_t);
-    uint8_t *out = guarded(room * sizeof(uint16_t)), *other = guarded(room * sizeof(uint16_t));
-    const uint32_t *given = (const uint32_t *)(const void *)codes.at;
-    fontcut_answer answer = fontcut_glyphs(font.at, font.length, given, count, (uint16_t *)(void *)out, room);
-    if (is_first && is_accepted(font) &&
-        (!is_same(answer,
-                  fontcut_glyphs_checked(font.at, font.length, given, count, (uint16_t *)(void *)other, room)) ||
-         memcmp(out - GUARD, other - GUARD, room * sizeof(uint16_t) + 2 * GUARD)))
-        printf("otherwise checked ");
-    free(other - GUARD);
-    say_filled(is_first, answer, words[3], out, sizeof(uint16_t), room);
-    free(out - GUARD);
-    free(codes.at);
-    free(font.at);
+    if (words[0][0] == 'g')
+        return fontcut_glyphs(flags, font.at, font.length, (const uint32_t *)(const void *)given.at,
+                              given.length / sizeof(uint32_t), (uint16_t *)(void *)out, room);
+    return fontcut_metrics(flags, font.at, font.length, (const uint16_t *)(const void *)given.at,
+                           given.length / sizeof(uint16_t), (fontcut_metric *)(void *)out, room);
 }
 
-static void do_metrics(int is_first, char **words)
+static void do_look_up(int is_first, char **words)
 {
-    file font = read_file(words[1]), glyphs = read_file(words[2]);
-    size_t room = (size_t)strtoull(words[4], NULL, 10), count = glyphs.length / sizeof(uint16_t);
-    uint8_t *out = guarded(room * sizeof(fontcut_metric)), *other = guarded(room * sizeof(fontcut_metric));
-    const uint16_t *given = (const uint16_t *)(const void *)glyphs.at;
-    fontcut_answer answer = fontcut_metrics(font.at, font.length, given, count, (fontcut_metric *)(void *)out, room);
+    uint32_t flags = (uint32_t)strtoul(words[1], NULL, 10);
+    file font = read_file(words[2]), given = read_file(words[3]);
+    size_t item = words[0][0] == 'g' ? sizeof(uint16_t) : sizeof(fontcut_metric);
+    size_t room = (size_t)strtoull(words[5], NULL, 10);
+    uint8_t *out = guarded(room * item), *other = guarded(room * item);
+    fontcut_answer answer = look_up(words, flags, font, given, out, room);
     if (is_first && is_accepted(font) &&
-        (!is_same(answer,
-                  fontcut_metrics_checked(font.at, font.length, given, count, (fontcut_metric *)(void *)other, room)) ||
-         memcmp(out - GUARD, other - GUARD, room * sizeof(fontcut_metric) + 2 * GUARD)))
+        (!is_same(answer, look_up(words, flags | FONTCUT_CHECKED, font, given, other, room)) ||
+         memcmp(out - GUARD, other - GUARD, room * item + 2 * GUARD)))
         printf("otherwise checked ");
     free(other - GUARD);
-    say_filled(is_first, answer, words[3], out, sizeof(fontcut_metric), room);
+    say_filled(is_first, answer, words[4], out, item, room);
     free(out - GUARD);
-    free(glyphs.at);
+    free(given.at);
     free(font.at);
 }
 
@@ -486,15 +398,32 @@ static void do_info(int is_first, char **words)
     free(font.at);
 }
 
-static void do_closure(int is_first, const request *asked, const char *path, const char *word)
+/* Whether a closure is the same with FONTCUT_CLOSES, and of an accepted font with FONTCUT_CHECKED. */
+static int is_same_closure(const question *asked, fontcut_answer answer, const uint8_t *out, size_t room)
 {
-    const file font = asked->font;
-    size_t room = (size_t)strtoull(word, NULL, 10);
+    fontcut_request request = asked->requests[0];
+    uint8_t *other = guarded(room * sizeof(uint16_t));
+    int same;
+    request.flags |= FONTCUT_CLOSES | (is_accepted(asked->font) ? FONTCUT_CHECKED : 0);
+    same = is_same(answer, fontcut_closure(&request, asked->font.at, asked->font.length, (uint16_t *)(void *)other,
+                                           room)) &&
+           !memcmp(out - GUARD, other - GUARD, room * sizeof(uint16_t) + 2 * GUARD);
+    free(other - GUARD);
+    return same;
+}
+
+static void do_closure(int is_first, char **words, int count)
+{
+    question *asked = read_question(words[1], words + 4, count - 4);
+    size_t room = (size_t)strtoull(words[3], NULL, 10);
     uint8_t *out = guarded(room * sizeof(uint16_t));
-    fontcut_answer answer = fontcut_closure(asked->kind, font.at, font.length, asked->ranges, asked->count,
-                                            asked->glyphs, asked->glyph_count, (uint16_t *)(void *)out, room);
-    say_filled(is_first, answer, path, out, sizeof(uint16_t), room);
+    fontcut_answer answer = fontcut_closure(asked->requests, asked->font.at, asked->font.length,
+                                            (uint16_t *)(void *)out, room);
+    if (is_first && !is_same_closure(asked, answer, out, room))
+        printf("otherwise with flags ");
+    say_filled(is_first, answer, words[2], out, sizeof(uint16_t), room);
     free(out - GUARD);
+    free_question(asked);
 }
 
 static void do_kept(int is_first, char **words)
@@ -506,24 +435,6 @@ static void do_kept(int is_first, char **words)
     say_filled(is_first, answer, words[3], out, sizeof(uint16_t), room);
     free(out - GUARD);
     free(font.at);
-}
-
-/* What a line asks for whose words end in ranges of one set, before which some have a list of glyphs. */
-static void do_request(int is_first, char **words, int count)
-{
-    int is_size = !strcmp(words[0], "size") || !strcmp(words[0], "exact_size");
-    int is_closure = !strcmp(words[0], "closure"), is_exact = is_closure || words[0][0] == 'e';
-    int begin = (is_size ? 3 : 5) + is_exact;
-    request *asked = (request *)got(sizeof *asked);
-    read_request(asked, words[1], words[2], is_exact ? words[begin - 1] : NULL, words + begin, count - begin);
-    if (is_size)
-        do_size(is_first, asked);
-    else if (is_closure)
-        do_closure(is_first, asked, words[3], words[4]);
-    else
-        do_cut(is_first, asked, words[3], words[4]);
-    free_request(asked);
-    free(asked);
 }
 
 /* An address at which nothing is, for areas of no bytes of any type. */
@@ -538,59 +449,52 @@ static void *address(int is_null)
 static int answers_of_cuts(uint32_t kind, file font, int is_null, fontcut_answer *answers)
 {
     uint8_t *none = (uint8_t *)address(is_null);
-    const fontcut_range *ranges = (const fontcut_range *)address(is_null);
-    uint64_t *numbers = (uint64_t *)address(is_null);
     uint16_t *glyphs = (uint16_t *)address(is_null);
+    const fontcut_range *ranges = (const fontcut_range *)address(is_null);
+    uint64_t *sizes = (uint64_t *)address(is_null), size = 0;
+    fontcut_request request = {sizeof request, kind, FONTCUT_CLOSES, ranges, 0, glyphs, 0};
     fontcut_bytes cut;
     cut.at = font.at;
     cut.length = font.length;
-    answers[0] = fontcut_subset_size(kind, font.at, font.length, ranges, 0);
-    answers[1] = fontcut_subset(kind, font.at, font.length, ranges, 0, none, 0);
-    answers[2] = fontcut_cuts(kind, font.at, font.length, ranges, 0, numbers, 0, none, 0, numbers, 0);
-    answers[3] = fontcut_cuts(kind, none, 0, ranges, 0, numbers, 0, none, 0, numbers, 0);
-    answers[4] = fontcut_cut_form(kind, none, 0);
-    answers[5] = fontcut_belongs(kind, none, 0, font.at, font.length);
-    answers[6] = fontcut_belongs(kind, font.at, font.length, none, 0);
-    answers[7] = fontcut_join(kind, (const fontcut_bytes *)address(is_null), 0, none, 0);
-    answers[8] = fontcut_join(kind, &cut, 1, none, 0);
-    answers[9] = fontcut_cut_size(none, 0, ranges, 0);
-    answers[10] = fontcut_cut(font.at, font.length, ranges, 0, none, 0);
-    answers[11] = fontcut_is_cut(none, 0);
-    answers[12] = fontcut_is_cut_of(none, 0, none, 0);
-    answers[13] = fontcut_join_all((const fontcut_bytes *)address(is_null), 0, none, 0);
-    answers[14] = fontcut_subset_glyphs_size(kind, font.at, font.length, ranges, 0, glyphs, 0);
-    answers[15] = fontcut_subset_glyphs(kind, font.at, font.length, ranges, 0, glyphs, 0, none, 0);
-    answers[16] = fontcut_cuts_glyphs(kind, font.at, font.length, ranges, 0, numbers, 0, glyphs, 0, numbers, 0, none, 0,
-                                      numbers, 0);
-    return 17;
+    answers[0] = fontcut_subset(&request, font.at, font.length, none, 0);
+    answers[1] = fontcut_subset(&request, none, 0, none, 0);
+    answers[2] = fontcut_subsets(&request, 1, font.at, font.length, none, 0, &size, 1);
+    answers[3] = fontcut_subsets(&request, 1, font.at, font.length, none, 0, sizes, 0);
+    answers[4] = fontcut_subsets((const fontcut_request *)address(is_null), 0, none, 0, none, 0, sizes, 0);
+    answers[5] = fontcut_closure(&request, font.at, font.length, glyphs, 0);
+    answers[6] = fontcut_closure(&request, none, 0, glyphs, 0);
+    answers[7] = fontcut_kept(kind, font.at, font.length, glyphs, 0);
+    answers[8] = fontcut_kept(kind, none, 0, glyphs, 0);
+    answers[9] = fontcut_cut_form(kind, none, 0);
+    answers[10] = fontcut_belongs(kind, none, 0, font.at, font.length);
+    answers[11] = fontcut_belongs(kind, font.at, font.length, none, 0);
+    answers[12] = fontcut_join(kind, (const fontcut_bytes *)address(is_null), 0, none, 0);
+    answers[13] = fontcut_join(kind, &cut, 1, none, 0);
+    request.flags = is_accepted(font) ? FONTCUT_CHECKED : 0;
+    answers[14] = fontcut_subset(&request, font.at, font.length, none, 0);
+    return 15;
 }
 
-/* The same of the calls that look something up, and of those for fonts that were checked where the font is accepted. */
-static int answers_of_lookups(uint32_t kind, file font, int is_null, fontcut_answer *answers)
+/* The same of the calls that look something up or read a text. */
+static int answers_of_lookups(file font, int is_null, fontcut_answer *answers)
 {
     uint8_t *none = (uint8_t *)address(is_null);
-    const fontcut_range *ranges = (const fontcut_range *)address(is_null);
-    const uint32_t *codes = (const uint32_t *)address(is_null);
+    fontcut_range *ranges = (fontcut_range *)address(is_null);
+    const uint32_t *codes = (const uint32_t *)address(is_null), flags = is_accepted(font) ? FONTCUT_CHECKED : 0;
     uint16_t *glyphs = (uint16_t *)address(is_null);
     fontcut_metric *metrics = (fontcut_metric *)address(is_null);
     fontcut_font_info info;
     answers[0] = fontcut_check(none, 0);
-    answers[1] = fontcut_codes(font.at, font.length, (fontcut_range *)address(is_null), 0);
-    answers[2] = fontcut_glyphs(font.at, font.length, codes, 0, glyphs, 0);
-    answers[3] = fontcut_metrics(font.at, font.length, glyphs, 0, metrics, 0);
+    answers[1] = fontcut_codes(font.at, font.length, ranges, 0);
+    answers[2] = fontcut_glyphs(0, font.at, font.length, codes, 0, glyphs, 0);
+    answers[3] = fontcut_metrics(0, font.at, font.length, glyphs, 0, metrics, 0);
     answers[4] = fontcut_info(none, 0, &info);
     answers[5] = fontcut_refusal_text(answers[0], none, 0);
-    answers[6] = fontcut_closure(kind, font.at, font.length, ranges, 0, glyphs, 0, glyphs, 0);
-    answers[7] = fontcut_kept(kind, font.at, font.length, glyphs, 0);
-    if (!is_accepted(font))
-        return 8;
-    answers[8] = fontcut_subset_size_checked(kind, font.at, font.length, ranges, 0);
-    answers[9] = fontcut_subset_checked(kind, font.at, font.length, ranges, 0, none, 0);
-    answers[10] = fontcut_glyphs_checked(font.at, font.length, codes, 0, glyphs, 0);
-    answers[11] = fontcut_metrics_checked(font.at, font.length, glyphs, 0, metrics, 0);
-    answers[12] = fontcut_subset_glyphs_size_checked(kind, font.at, font.length, ranges, 0, glyphs, 0);
-    answers[13] = fontcut_subset_glyphs_checked(kind, font.at, font.length, ranges, 0, glyphs, 0, none, 0);
-    return 14;
+    answers[6] = fontcut_needed(none, 0, ranges, 0);
+    answers[7] = fontcut_ranges(none, 0, ranges, 0);
+    answers[8] = fontcut_glyphs(flags, font.at, font.length, codes, 0, glyphs, 0);
+    answers[9] = fontcut_metrics(flags, font.at, font.length, glyphs, 0, metrics, 0);
+    return 10;
 }
 
 static void do_nothing(int is_first, char **words)
@@ -599,8 +503,8 @@ static void do_nothing(int is_first, char **words)
     file font = read_file(words[2]);
     fontcut_answer of_address[32], of_null[32];
     int i, count = answers_of_cuts(kind, font, 0, of_address);
-    count += answers_of_lookups(kind, font, 0, of_address + count);
-    answers_of_lookups(kind, font, 1, of_null + answers_of_cuts(kind, font, 1, of_null));
+    count += answers_of_lookups(font, 0, of_address + count);
+    answers_of_lookups(font, 1, of_null + answers_of_cuts(kind, font, 1, of_null));
     for (i = 0; i < count && is_same(of_address[i], of_null[i]); i++) {
     }
     if (is_first && i == count)
@@ -653,27 +557,26 @@ static void do_check(int is_first, char **words)
 
 static void do_line(int is_first, char **words, int count)
 {
-    if (!strcmp(words[0], "size") || !strcmp(words[0], "cut") || !strcmp(words[0], "exact_size") ||
-        !strcmp(words[0], "exact_cut") || !strcmp(words[0], "closure"))
-        do_request(is_first, words, count);
-    else if (!strcmp(words[0], "cuts") || !strcmp(words[0], "exact_cuts"))
-        do_requests(is_first, words, count);
+    if (!strcmp(words[0], "cut"))
+        do_cut(is_first, words, count);
+    else if (!strcmp(words[0], "cuts"))
+        do_cuts(is_first, words, count);
+    else if (!strcmp(words[0], "closure"))
+        do_closure(is_first, words, count);
     else if (!strcmp(words[0], "kept"))
         do_kept(is_first, words);
     else if (!strcmp(words[0], "join"))
         do_join(is_first, words, count);
-    else if (!strcmp(words[0], "codes"))
-        do_codes(is_first, words);
+    else if (!strcmp(words[0], "codes") || !strcmp(words[0], "needed") || !strcmp(words[0], "ranges"))
+        do_ranges(is_first, words);
     else if (!strcmp(words[0], "text"))
         do_text(is_first, words);
     else if (!strcmp(words[0], "form"))
         do_form(is_first, words);
     else if (!strcmp(words[0], "belongs"))
         do_belongs(is_first, words);
-    else if (!strcmp(words[0], "glyphs"))
-        do_glyphs(is_first, words);
-    else if (!strcmp(words[0], "metrics"))
-        do_metrics(is_first, words);
+    else if (!strcmp(words[0], "glyphs") || !strcmp(words[0], "metrics"))
+        do_look_up(is_first, words);
     else if (!strcmp(words[0], "info"))
         do_info(is_first, words);
     else if (!strcmp(words[0], "nothing"))

@@ -1,15 +1,16 @@
 /* Does each call of fontcut.h again and again, while the first, the second, .. request for memory is refused, and
- * prints for each call how many requests it makes. Words: a font, and a cut of it of each kind. It is linked with
- * --wrap=malloc,--wrap=realloc. The status is 0 where each refused request was answered by FONTCUT_NO_MEMORY and left
- * the room as it was. */
-#define FONTCUT_DEPRECATED(text)
+ * prints for each call how many requests it makes, and how many bytes of stack it takes. Words: a font, and a cut of it
+ * of each kind. It is linked with --wrap=malloc,--wrap=realloc. The status is 0 where each refused request was answered
+ * by FONTCUT_NO_MEMORY and left the room as it was. */
+#define _XOPEN_SOURCE 700
 #include "fontcut.h"
 
+#include <pthread.h>
 #include <stdio.h>
 #include <stdlib.h>
 #include <string.h>
 
-enum { ROOM = 4 * 1024 * 1024, SETS = 3, KINDS = 4, FILL = 0xA5, MOST = 1000 };
+enum { ROOM = 4 * 1024 * 1024, STACK = 1024 * 1024, SETS = 3, KINDS = 4, FILL = 0xA5, MOST = 1000 };
 
 void *__real_malloc(size_t size);
 void *__real_realloc(void *at, size_t size);
@@ -40,120 +41,95 @@ static fontcut_bytes files[1 + KINDS]; /* a font, and a cut of it of each kind, 
 
 static const fontcut_range RANGES[] = {{0x41, 0x43}, {0x61, 0x61}, {0x100, 0x200}};
 
-static const uint64_t COUNTS[SETS] = {2, 0, 1};
-
 static const uint32_t CODES[] = {0x41, 0x62, 0x10FFFF};
 
 static const uint16_t GLYPHS[] = {2, 0, 1};
 
+static const char TEXT[] = "e\314\201\n(\330\250 \352\260\201", LIST[] = "U+41-43, 61; U+1??";
+
 /* The calls that take a kind, of which each is made for all kinds, and then those that take none. */
 #define OF_KINDS_OF(name) name, "lean_" name, "layout_" name, "variable_" name
 static const char *const NAMES[] = {
-    OF_KINDS_OF("subset_size"), OF_KINDS_OF("subset"), OF_KINDS_OF("cuts"), OF_KINDS_OF("belongs"),
-    OF_KINDS_OF("cut_form"), OF_KINDS_OF("join"), OF_KINDS_OF("subset_size_checked"), OF_KINDS_OF("subset_checked"),
-    OF_KINDS_OF("subset_glyphs_size"), OF_KINDS_OF("subset_glyphs"), OF_KINDS_OF("cuts_glyphs"),
-    OF_KINDS_OF("subset_glyphs_size_checked"), OF_KINDS_OF("subset_glyphs_checked"), OF_KINDS_OF("closure"),
-    OF_KINDS_OF("kept"),
-    "cut_size",    "cut",              "is_cut",             "codes",   "is_cut_of",    "join_all",
-    "check",       "glyphs",           "metrics",            "info",    "refusal_text",
-    "glyphs_checked", "metrics_checked",
+    OF_KINDS_OF("subset"),         OF_KINDS_OF("subset_of_glyphs"), OF_KINDS_OF("checked_subset"),
+    OF_KINDS_OF("closed_subset"),  OF_KINDS_OF("subsets"),          OF_KINDS_OF("closed_subsets"),
+    OF_KINDS_OF("closure"),        OF_KINDS_OF("kept"),             OF_KINDS_OF("belongs"),
+    OF_KINDS_OF("cut_form"),       OF_KINDS_OF("join"),
+    "codes", "check", "glyphs", "metrics", "info", "refusal_text", "checked_glyphs", "checked_metrics", "needed",
+    "ranges",
 };
-enum { CALLS = sizeof NAMES / sizeof *NAMES, BY_NUMBER = 8 * KINDS, OF_KINDS = BY_NUMBER + 7 * KINDS };
+enum { CALLS = sizeof NAMES / sizeof *NAMES, BY_REQUEST = 6 * KINDS, OF_KINDS = 11 * KINDS };
 
-/* A call of a kind for glyphs by number, of which full cuts are given none. */
-static fontcut_answer do_call_by_number(int call)
+/* A call that cuts, of a kind: full cuts are for no glyph. */
+static fontcut_answer do_call_by_request(int call)
 {
+    static const uint32_t flags[] = {FONTCUT_CLOSES, 0, FONTCUT_CHECKED, FONTCUT_CLOSES, 0, FONTCUT_CLOSES};
     const uint32_t kind = (uint32_t)(call % KINDS);
     const fontcut_bytes font = files[0];
-    const size_t glyphs = kind == FONTCUT_FULL ? 0 : 3;
-    const uint64_t counts[1] = {glyphs};
-    uint16_t *numbers = (uint16_t *)(void *)room;
-    switch (call / KINDS) {
-    case 0:
-        return fontcut_subset_glyphs_size(kind, font.at, font.length, RANGES, 3, GLYPHS, glyphs);
-    case 1:
-        return fontcut_subset_glyphs(kind, font.at, font.length, RANGES, 3, GLYPHS, glyphs, room, ROOM);
-    case 2:
-        return fontcut_cuts_glyphs(kind, font.at, font.length, RANGES, 3, COUNTS, SETS, GLYPHS, glyphs, counts, 1, room,
-                                   ROOM, sizes, SETS);
-    case 3:
-        return fontcut_subset_glyphs_size_checked(kind, font.at, font.length, RANGES, 3, GLYPHS, glyphs);
-    case 4:
-        return fontcut_subset_glyphs_checked(kind, font.at, font.length, RANGES, 3, GLYPHS, glyphs, room, ROOM);
-    case 5:
-        return fontcut_closure(kind, font.at, font.length, RANGES, 3, GLYPHS, 3, numbers, ROOM / sizeof(uint16_t));
-    default:
-        return fontcut_kept(kind, font.at, font.length, numbers, ROOM / sizeof(uint16_t));
+    fontcut_request requests[SETS];
+    int number = call / KINDS, i;
+    for (i = 0; i < SETS; i++) {
+        const fontcut_request made = {sizeof made, kind, flags[number], RANGES, i == 1 ? 0 : 3, GLYPHS,
+                                      kind == FONTCUT_FULL || number == 0 || i == 2 ? 0 : 3};
+        requests[i] = made;
     }
+    if (number < 4)
+        return fontcut_subset(requests, font.at, font.length, room, ROOM);
+    return fontcut_subsets(requests, SETS, font.at, font.length, room, ROOM, sizes, SETS);
 }
 
-/* A call of a kind, over a cut of that kind. */
+/* Another call of a kind, over a cut of that kind. */
 static fontcut_answer do_call_of_kind(int call)
 {
     const uint32_t kind = (uint32_t)(call % KINDS);
     const fontcut_bytes font = files[0], cut = files[1 + kind];
+    const fontcut_request wanted = {sizeof wanted, kind, 0, RANGES, 3, GLYPHS, kind == FONTCUT_FULL ? 0 : 3};
+    uint16_t *numbers = (uint16_t *)(void *)room;
     fontcut_bytes cuts[2];
     cuts[0] = cuts[1] = cut;
     switch (call / KINDS) {
     case 0:
-        return fontcut_subset_size(kind, font.at, font.length, RANGES, 3);
+        return fontcut_closure(&wanted, font.at, font.length, numbers, ROOM / sizeof(uint16_t));
     case 1:
-        return fontcut_subset(kind, font.at, font.length, RANGES, 3, room, ROOM);
+        return fontcut_kept(kind, font.at, font.length, numbers, ROOM / sizeof(uint16_t));
     case 2:
-        return fontcut_cuts(kind, font.at, font.length, RANGES, 3, COUNTS, SETS, room, ROOM, sizes, SETS);
-    case 3:
         return fontcut_belongs(kind, cut.at, cut.length, font.at, font.length);
-    case 4:
+    case 3:
         return fontcut_cut_form(kind, cut.at, cut.length);
-    case 5:
-        return fontcut_join(kind, cuts, 2, room, ROOM);
-    case 6:
-        return fontcut_subset_size_checked(kind, font.at, font.length, RANGES, 3);
     default:
-        return fontcut_subset_checked(kind, font.at, font.length, RANGES, 3, room, ROOM);
+        return fontcut_join(kind, cuts, 2, room, ROOM);
     }
 }
 
 static fontcut_answer do_call(int call)
 {
-    const fontcut_bytes font = files[0], cut = files[1];
-    fontcut_answer told = {FONTCUT_BAD_GLYPH, 7, 0, 0};
-    fontcut_bytes cuts[2];
-    cuts[0] = cuts[1] = cut;
-    if (call < BY_NUMBER)
-        return do_call_of_kind(call);
+    const fontcut_bytes font = files[0];
+    const fontcut_answer told = {FONTCUT_BAD_GLYPH, 7, 0, 0};
+    const uint32_t flags = call - OF_KINDS < 6 ? 0 : FONTCUT_CHECKED;
+    fontcut_range *ranges = (fontcut_range *)(void *)room;
+    if (call < BY_REQUEST)
+        return do_call_by_request(call);
     if (call < OF_KINDS)
-        return do_call_by_number(call - BY_NUMBER);
+        return do_call_of_kind(call - BY_REQUEST);
     switch (call - OF_KINDS) {
     case 0:
-        return fontcut_cut_size(font.at, font.length, RANGES, 3);
+        return fontcut_codes(font.at, font.length, ranges, ROOM / sizeof *ranges);
     case 1:
-        return fontcut_cut(font.at, font.length, RANGES, 3, room, ROOM);
-    case 2:
-        return fontcut_is_cut(cut.at, cut.length);
-    case 3:
-        return fontcut_codes(font.at, font.length, (fontcut_range *)(void *)room, ROOM / sizeof(fontcut_range));
-    case 4:
-        return fontcut_is_cut_of(cut.at, cut.length, font.at, font.length);
-    case 5:
-        return fontcut_join_all(cuts, 2, room, ROOM);
-    case 6:
         return fontcut_check(font.at, font.length);
+    case 2:
+    case 6:
+        return fontcut_glyphs(flags, font.at, font.length, CODES, 3, (uint16_t *)(void *)room, ROOM / sizeof(uint16_t));
+    case 3:
     case 7:
-        return fontcut_glyphs(font.at, font.length, CODES, 3, (uint16_t *)(void *)room, ROOM / sizeof(uint16_t));
-    case 8:
-        return fontcut_metrics(font.at, font.length, GLYPHS, 3, (fontcut_metric *)(void *)room,
+        return fontcut_metrics(flags, font.at, font.length, GLYPHS, 3, (fontcut_metric *)(void *)room,
                                ROOM / sizeof(fontcut_metric));
-    case 9:
+    case 4:
         return fontcut_info(font.at, font.length, (fontcut_font_info *)(void *)room);
-    case 10:
+    case 5:
         return fontcut_refusal_text(told, room, ROOM);
-    case 11:
-        return fontcut_glyphs_checked(font.at, font.length, CODES, 3, (uint16_t *)(void *)room,
-                                      ROOM / sizeof(uint16_t));
+    case 8:
+        return fontcut_needed((const uint8_t *)TEXT, sizeof TEXT - 1, ranges, ROOM / sizeof *ranges);
     default:
-        return fontcut_metrics_checked(font.at, font.length, GLYPHS, 3, (fontcut_metric *)(void *)room,
-                                       ROOM / sizeof(fontcut_metric));
+        return fontcut_ranges((const uint8_t *)LIST, sizeof LIST - 1, ranges, ROOM / sizeof *ranges);
     }
 }
 
@@ -172,6 +148,31 @@ static fontcut_bytes read_file(const char *path)
     fclose(from);
     read.at = at;
     return read;
+}
+
+static uint8_t stack[STACK] __attribute__((aligned(64)));
+
+static void *done_on_stack(void *call)
+{
+    if (call)
+        do_call(*(const int *)call);
+    return NULL;
+}
+
+/* The bytes of a stack that are not as they were when a call is done on it; without a call, those of the thread. */
+static size_t changed_stack(int *call)
+{
+    pthread_attr_t attributes;
+    pthread_t thread;
+    size_t i = 0;
+    memset(stack, FILL, STACK);
+    if (pthread_attr_init(&attributes) || pthread_attr_setstack(&attributes, stack, STACK) ||
+        pthread_create(&thread, &attributes, done_on_stack, call) || pthread_join(thread, NULL) ||
+        pthread_attr_destroy(&attributes))
+        exit(3);
+    while (i < STACK && stack[i] == FILL)
+        i++;
+    return STACK - i;
 }
 
 static int is_untouched(void)
@@ -209,7 +210,7 @@ int main(int count, char **words)
                 status = 1;
             }
         }
-        printf("%s %ld\n", NAMES[call], request);
+        printf("%s %ld %zu\n", NAMES[call], request, changed_stack(&call) - changed_stack(NULL));
     }
     for (file = 0; file <= KINDS; file++)
         free((void *)files[file].at);

@@ -12,6 +12,7 @@ from checks import DONE, TOP, Ran, check, put, read, run, same
 from worked_cuts import BASE6
 
 LIB = os.path.join(TOP, "tests", "lib")
+CLOSES = 1  # the flag of a request that follows the links of GSUB
 # What is wanted of each font; a join is of the first two.
 SETS = (["41-5A"], ["61-7A"], ["20-7E", "A0-17F"], ["370-3FF", "1F00-1FFF"], ["0-10FFFF"])
 KINDS: dict[str, list[str]] = {
@@ -117,6 +118,11 @@ def range_of(wanted: str) -> str:
     return wanted if "-" in wanted else f"{wanted}-{wanted}"
 
 
+def request(kind: int, ranges: str, glyphs: str = "", flags: int = CLOSES, more: int = 0) -> str:
+    """The words of a request for ranges and the glyphs of a file, as tests/lib/library_calls.c reads them."""
+    return f"+{kind},{flags},{more},{glyphs} {ranges}".rstrip()
+
+
 def lines_of_calls(path: str, name: str) -> list[str]:
     """Lines for tests/lib/library_calls.c: what is asked of a font, and the files that this writes."""
     lines = [f"check {path}", f"codes {path} {name}.codes 20000", f"info {path} {name}.info"]
@@ -124,11 +130,11 @@ def lines_of_calls(path: str, name: str) -> list[str]:
         cuts = []
         for number, wanted in enumerate(SETS):
             cuts.append(f"{name}{kind}{number}.ttf")
-            lines += [f"size {kind} {path} {' '.join(map(range_of, wanted))}",
-                      f"cut {kind} {path} {cuts[-1]} - {' '.join(map(range_of, wanted))}"]
-        lines += [f"cuts {kind} {path} {name}{kind}.cuts - - + 41-5A + 61-7A", f"form {kind} {path}",
-                  f"exact_cut {kind} {path} {name}{kind}.exact - glyphs.in 41-43",
-                  f"closure {kind} {path} {name}{kind}.closure 65536 glyphs.in 41-43"]
+            lines.append(f"cut {path} {cuts[-1]} - {request(kind, ' '.join(map(range_of, wanted)))}")
+        exact, closed = (request(kind, "41-43", "glyphs.in", flags) for flags in (0, CLOSES))
+        lines += [f"cuts {path} {name}{kind}.cuts - - {closed} {exact} {request(kind, '')}", f"form {kind} {path}",
+                  f"cut {path} {name}{kind}.exact - {exact}",
+                  f"closure {path} {name}{kind}.closure 65536 {closed}"]
         if kind < len(KINDS):
             lines += [f"belongs {kind} {cuts[0]} {path}", f"join {kind} {name}{kind}.ttf - {cuts[0]} {cuts[1]}",
                       f"join {kind} {name}{kind}.ttf - {cuts[0]} {path}", f"form {kind} {cuts[0]}",

@@ -146,6 +146,11 @@ static void opened(void) {
     FAILS((int)sys_open(path("loop"), READS), LOOP);
 }
 
+static u32 mode_of(const char *name, u32 flags) {
+    struct statx_found found;
+    return sys_statx((u32)HERE, path(name), flags, 0xfff, (u8 *)&found) == 0 ? found.mode : 0;
+}
+
 static void moved_bytes(void) {
     u8 out[4] = {'.', '.', '.', '.'};
     HOLDS(write_to("moved", WRITES | NEW, "abc"));
@@ -155,7 +160,15 @@ static void moved_bytes(void) {
     HOLDS(sys_read(file, out, 4) == 1 && sys_read(file, out, 4) == 0 && memcmp(out, "cb..", 4) == 0);
     HOLDS(sys_lseek(file, (u64)-2, 2) == 1 && sys_lseek(file, 1, 1) == 2 && sys_lseek(file, 1, 0) == 1);
     FAILS((i64)sys_lseek(file, (u64)-1, 0), INVALID);
+    HOLDS(sys_ftruncate(file, 2) == 0 && is_held("moved", "ab") && sys_ftruncate(file, 0) == 0 && is_held("moved", ""));
+    FAILS((int)sys_ftruncate(file, (u64)-1), INVALID);
+    HOLDS(sys_fsync(file) == 0 && sys_fdatasync(file) == 0);
+    HOLDS(sys_fchmod(file, 0640) == 0 && (mode_of("moved", 0) & 07777) == 0640);
     HOLDS(sys_close(file) == 0);
+    FAILS((int)sys_ftruncate(file, 0), BAD_FILE);
+    FAILS((int)sys_fsync(file), BAD_FILE);
+    FAILS((int)sys_fdatasync(file), BAD_FILE);
+    FAILS((int)sys_fchmod(file, 0640), BAD_FILE);
     FAILS((int)sys_close(file), BAD_FILE);
     FAILS((i64)sys_read(file, out, 4), BAD_FILE);
     FAILS((i64)sys_write(file, out, 4), BAD_FILE);
@@ -201,11 +214,6 @@ static void names(void) {
     FAILS((int)sys_unlink(path("new")), NO_FILE);
     HOLDS(write_to("new", WRITES | NEW, "x"));
     umask(kept);
-}
-
-static u32 mode_of(const char *name, u32 flags) {
-    struct statx_found found;
-    return sys_statx((u32)HERE, path(name), flags, 0xfff, (u8 *)&found) == 0 ? found.mode : 0;
 }
 
 static void modes(void) {

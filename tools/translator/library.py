@@ -7,8 +7,6 @@ from .translation import BASE, MADE, Translation, runtime
 
 COMMENT = re.compile(r"/\*.*?\*/", re.S)
 DECLARATION = re.compile(r"^(\w[^#;{}]*\([^;{}]*\));$", re.M)
-# What stands before some declarations.
-DEPRECATED = re.compile(r"^FONTCUT_DEPRECATED\([^)]*\)")
 HEAD = re.compile(r"(\w+) (\w+)\((.*)\)")
 ARGUMENT = re.compile(r"(\w[\w ]*[ *]+)(\w+)(?:, |$)")
 # The struct that calls take and return.
@@ -31,7 +29,7 @@ def exports(header: str, names: set[str]) -> list[str]:
     """The functions of a header, which have to be those that a module exports."""
     lines, found = [], set()
     for declared in DECLARATION.findall(COMMENT.sub("", header)):
-        head = HEAD.fullmatch(" ".join(DEPRECATED.sub("", declared).split()))
+        head = HEAD.fullmatch(" ".join(declared.split()))
         if not head:
             raise Refused(f"read the declaration {' '.join(declared.split())[:200]}")
         found.add(head[2])

@@ -21,9 +21,18 @@ from .sets import AUTO, MOST_EQUAL, WEB
 INSTALL = "pip install 'fontcut[web]'"
 _RAW = argparse.RawDescriptionHelpFormatter
 _CUT_KINDS = """\
-Cuts are lean, for text that is drawn glyph by glyph. With --layout they also have the layout tables, for kerning,
-ligatures and scripts that are shaped. With --variable they are layout cuts that keep the variations of a font; other
-cuts have its default instance. With --full they have the metrics and names of all glyphs."""
+Cuts are layout cuts: they have the layout tables, for kerning, ligatures and scripts that are shaped.
+{variable}, they are variable cuts, which keep its variations. With --lean
+they have neither, for text that is drawn glyph by glyph, and with --full the metrics and names of all glyphs too.
+
+Layout and variable cuts are made of the font prepared for {them}: they are small, and do not join. With
+--as-is they are cuts of the font as it is, which join, as do those of a font that fontcut-web prepare wrote. What is
+prepared has {features}."""
+_OF_SLICES = _CUT_KINDS.format(variable="Of a variable font", them="each slice",
+                               features="the features that shapers use without being asked")
+_OF_TEXT = _CUT_KINDS.format(
+    variable="Where pages use axes of a variable font", them="the pages",
+    features="the features that shapers use without being asked, and those that style sheets turn on")
 
 _WHAT = """\
 Fonts for the web, cut by fontcut: prepared fonts, slices with a style sheet, cuts for the text of pages, the fonts of a
@@ -104,8 +113,8 @@ _TEXT = """\
 Writes the cut of FONT for the characters that HTML pages draw to OUT: their text without scripts, styles and titles,
 and the attributes alt and placeholder, label in lists, and value in fields and on buttons. If OUT ends in .woff2, it is
 WOFF2. What browsers write for style sheets is wanted too: numbers of lists, content, quotation marks, capitals. What a
-script adds is not known: add it with --text. With --layout or --variable the cut also has the characters that a shaper
-takes for these, as with fontcut subset --layout.
+script adds is not known: add it with --text. Layout and variable cuts also have the characters that a shaper takes for
+these, as with fontcut subset --layout.
 
 With --shaped, hb-shape of HarfBuzz shapes the text, and the cut has just the glyphs that come: it is exact, and much
 smaller. Lines, words and all pieces of words are shaped, with and without ligatures, in each language that a page
@@ -203,7 +212,7 @@ def _run_slice(given: argparse.Namespace) -> None:
     need("fontTools", *["brotli"] if given.woff2 else [])
     slicing = part("slicing")
     how = slicing.SliceOptions(given.kind, given.woff2, given.css, given.display, given.strict, _dropped(given),
-                               given.rest, given.force)
+                               given.rest, given.force, given.as_is)
     paths, wanted = use.fonts_and_slices(given)
     with Progress("fontcut-web", given.quiet) as progress:
         progress.say(f"reading {len(paths)} fonts")
@@ -258,6 +267,11 @@ def _kinds(command: argparse.ArgumentParser, default: Optional[str], **helps: st
     command.set_defaults(kind=default)
 
 
+def _as_is(command: argparse.ArgumentParser) -> None:
+    command.add_argument("--as-is", action="store_true",
+                         help="cut FONT as it is, without preparing it: such cuts join with its other cuts")
+
+
 def _display(command: argparse.ArgumentParser) -> None:
     command.add_argument("--display", metavar="VALUE", choices=DISPLAYS, default="swap",
                          help=f"font-display in the style sheet: {', '.join(DISPLAYS)} (swap)")
@@ -265,17 +279,19 @@ def _display(command: argparse.ArgumentParser) -> None:
 
 def _add_slice(commands: argparse._SubParsersAction[CommandParser]) -> None:
     command = commands.add_parser(
-        "slice", help="cut fonts in slices, with a style sheet", description=f"{_SLICE}\n{_CUT_KINDS}\n",
+        "slice", help="cut fonts in slices, with a style sheet", description=f"{_SLICE}\n{_OF_SLICES}\n",
         formatter_class=_RAW, epilog=_STATUS,
         usage="fontcut-web slice FONT.. --out DIR --slices SLICES [--lean | --layout | --variable | --full]\n"
-              "                         [--drop TABLES] [--order FILE] [--rest] [--woff2] [--css] [--display VALUE]\n"
-              "                         [--strict] [--force] [--quiet] [--json]")
+              "                         [--as-is] [--drop TABLES] [--order FILE] [--rest] [--woff2] [--css]\n"
+              "                         [--display VALUE] [--strict] [--force] [--quiet] [--json]")
     command.add_argument("fonts", metavar="FONT", nargs="+")
     command.add_argument("--out", metavar="DIR", required=True, help="the folder that the files go to")
     command.add_argument("--slices", metavar="SLICES", action="append", required=True, help="a preset or a file")
     _add_order(command)
-    _kinds(command, "lean", lean="write lean cuts (the default)", layout="write layout cuts",
-           variable="write variable cuts, whose rules have ranges", full="write full cuts")
+    _kinds(command, None, lean="write lean cuts", layout="write layout cuts (the default)",
+           variable="write variable cuts, whose rules have ranges (the default of variable fonts)",
+           full="write full cuts")
+    _as_is(command)
     command.add_argument("--drop", metavar="TABLES", action="append",
                          help="with --layout or --variable, cut fonts as if they lacked these layout tables, as "
                               "GSUB,kern")
@@ -311,18 +327,20 @@ def _add_slices(commands: argparse._SubParsersAction[CommandParser]) -> None:
 
 def _add_text(commands: argparse._SubParsersAction[CommandParser]) -> None:
     command = commands.add_parser(
-        "text", help="cut a font for the characters that pages show", description=f"{_TEXT}\n{_CUT_KINDS}\n",
+        "text", help="cut a font for the characters that pages show", description=f"{_TEXT}\n{_OF_TEXT}\n",
         formatter_class=_RAW, epilog=_STATUS,
-        usage="fontcut-web text PAGE.. FONT OUT [--lean | --layout | --variable | --full] [--text TEXT]\n"
-              "                        [--shaped] [--features LIST] [--check] [--css] [--display VALUE] [--strict]\n"
-              "                        [--force] [--quiet] [--json]")
+        usage="fontcut-web text PAGE.. FONT OUT [--lean | --layout | --variable | --full] [--as-is]\n"
+              "                        [--text TEXT] [--shaped] [--features LIST] [--check] [--css] [--display VALUE]\n"
+              "                        [--strict] [--force] [--quiet] [--json]")
     command.add_argument("files", metavar="PAGE.. FONT OUT", nargs="+", help=argparse.SUPPRESS)
-    _kinds(command, None, lean="write a lean cut (the default)", layout="write a layout cut (the default of --shaped)",
-           variable="write a variable cut", full="write a full cut")
+    _kinds(command, None, lean="write a lean cut", layout="write a layout cut (the default)",
+           variable="write a variable cut (the default where pages use axes)", full="write a full cut")
+    _as_is(command)
     command.add_argument("--text", metavar="TEXT", default="", help="more characters to keep")
     command.add_argument("--shaped", action="store_true", help="write an exact cut: of just the glyphs of the text")
     command.add_argument("--features", metavar="LIST", action="append",
-                         help="with --shaped, shape with these features too, as smcp,onum or salt=2; may be repeated")
+                         help="keep these features too, and with --shaped shape with them, as smcp,onum or salt=2; may "
+                              "be repeated")
     command.add_argument("--check", action="store_true", help="write nothing if Chromium draws a page otherwise")
     command.add_argument("--css", action="store_true", help="write OUT's style sheet, whose name ends in .css")
     _display(command)

@@ -4,12 +4,13 @@ from __future__ import annotations
 import contextlib
 import functools
 import html
+import json
 import os
 import re
 import secrets
 import shutil
 import tempfile
-from typing import Iterator, List, NamedTuple, Sequence, Set, Tuple
+from typing import Iterator, List, NamedTuple, Sequence, Set, Tuple, Union
 from urllib.request import pathname2url
 
 from fontcut_output import read
@@ -17,9 +18,10 @@ from fontcut_output import read
 from .boxes import boxes
 from .browser import Browser, Failed
 from .common import MissingProgram, Refused
-from .inputs import file_in
+from .inputs import file_in, sha256
 from .pages import decoded
 from .processes import processors, side_by_side
+from .sheet import string
 
 _PROGRAMS = "chromium", "chromium-browser", "google-chrome"
 # The size of the window, in pixels; what lies below is not drawn.
@@ -36,6 +38,23 @@ _STYLE = """<style>@font-face {{ font-family: font-{name}; src: url("{font}"); f
 *, *::before, *::after, *::first-letter, *::first-line, *::marker, *::placeholder {{
   font-family: font-{name}, boxes-{name} !important; }}
 </style>"""
+# Each font has its own family for elements that style sheets give it, under a name that no font of the system has, and
+# what they lack are boxes. What has no element, as text of style sheets, is drawn by the names of the page.
+_RULE = """@font-face {{ {declared} src: url("{font}"); font-display: block; {more} }}
+"""
+_RENAMED = """<style>{rules}@font-face {{ font-family: boxes-{name}; src: url("{boxes}"); font-display: block;
+  }}</style>
+<script>(() => {{
+  const known = new Map({known});
+  const names = list => list.match(/"(?:[^"\\\\]|\\\\.)*"|[^,]+/g) || [];
+  const plain = name => name.trim().replace(/^"|"$/g, "").replace(/\\\\(.)/g, "$1").toLowerCase();
+  const every = [...document.querySelectorAll("*")].map(one => [one, names(getComputedStyle(one).fontFamily)]);
+  for (const [one, list] of every) {{
+    const found = list.map(name => known.get(plain(name))).filter(name => name);
+    if (one.style) one.style.setProperty("font-family", [...found, "boxes-{name}"].join(), "important");
+  }}
+}})();</script>
+"""
 # Outlines are drawn as they are. FreeType's automatic hinting moves them by what it finds in other letters of a file,
 # so that a cut without these would be drawn a little otherwise.
 _UNHINTED = """<?xml version="1.0"?>
@@ -61,24 +80,69 @@ def _address(path: str) -> str:
     return f"file://{pathname2url(os.path.abspath(path))}"
 
 
-def _page(path: str, font: str, boxes: str) -> str:
-    """A page whose text is drawn in the font in a file, and in boxes of another, and whose addresses are those of the
-    page in a file."""
+def _page(path: str, before: str, after: str) -> str:
+    """A page with this before it and after it, whose addresses are those of the page in a file."""
     text = decoded(read(path))
     base = f'<meta charset="utf-8"><base href="{html.escape(_address(path))}">'
     head = re.search(r"<head\b[^>]*>|<html\b[^>]*>|<!doctype[^>]*>", text, re.I)
     start = head.end() if head else 0
-    style = _STYLE.format(name=secrets.token_hex(8), font=_address(font), boxes=_address(boxes))
-    # The last style counts, and a script may take away the element in which it stands.
-    return f"{text[:start]}{base}{style}{text[start:]}{style}"
+    return f"{text[:start]}{base}{before}{text[start:]}{after}"
 
 
 class Drawn(NamedTuple):
-    """A page in a file, a whole font, and its cut, by which the page is to be drawn as by the font."""
+    """A page in a file, a whole font, and its cut, by which all of the page is to be drawn as by the font."""
 
     page: str
     whole: bytes
     cut: bytes
+
+    def shown(self, folder: str, is_cut: bool, boxed: str) -> str:
+        """The page with one of the fonts, which is put into a folder, and boxes of the font in a file."""
+        font = _put(folder, self.cut if is_cut else self.whole)
+        style = _STYLE.format(name=secrets.token_hex(8), font=font, boxes=_address(boxed))
+        # The last style counts, and a script may take away the element in which it stands.
+        return _page(self.page, style, style)
+
+
+class Family(NamedTuple):
+    """A font of a page: its family, what style sheets declare of it, the whole font, its cut, and the characters that
+    style sheets say the cut has."""
+
+    family: str
+    declared: List[str]
+    whole: bytes
+    cut: bytes
+    ranges: str
+
+
+class DrawnBy(NamedTuple):
+    """A page in a file whose elements have several fonts, by the cuts of which it is to be drawn as by the fonts."""
+
+    page: str
+    fonts: Sequence[Family]
+
+    def shown(self, folder: str, is_cut: bool, boxed: str) -> str:
+        """The page with the fonts or their cuts, which are put into a folder, and boxes of the font in a file."""
+        name = secrets.token_hex(8)
+        other = {font.family: f"font-{name}-{number}" for number, font in enumerate(self.fonts)}
+        rules = ""
+        for font in self.fonts:
+            address = _put(folder, font.cut if is_cut else font.whole)
+            more = f"unicode-range: {font.ranges};" if is_cut else ""
+            own = [one for one in font.declared if not one.startswith("font-family:")]
+            for family in (string(font.family), other[font.family]):
+                rules += _RULE.format(declared=" ".join([f"font-family: {family};", *own]), font=address, more=more)
+        known = json.dumps([[family.lower(), renamed] for family, renamed in other.items()]).replace("<", "\\u003c")
+        after = _RENAMED.format(rules=rules, name=name, boxes=_address(boxed), known=known)
+        return _page(self.page, "", after)
+
+
+Compared = Union[Drawn, DrawnBy]
+
+
+def _put(folder: str, font: bytes) -> str:
+    """The address of a font that is put into a folder."""
+    return _address(file_in(folder, f"font-{sha256(font)}", font))
 
 
 @contextlib.contextmanager
@@ -116,7 +180,7 @@ def _picture(browser: Browser, address: str) -> str:
     return picture
 
 
-def _differences(program: str, every: Sequence[Drawn]) -> List[str]:
+def _differences(program: str, every: Sequence[Compared]) -> List[str]:
     """What is said of each page that is not drawn by a cut as by the whole font; an empty text where it is."""
     found: List[str] = []
     with _browsing(program) as (browser, folder):
@@ -124,10 +188,10 @@ def _differences(program: str, every: Sequence[Drawn]) -> List[str]:
         for one in every:
             pictures: Set[str] = set()
             try:
-                for number, font in enumerate((one.whole, one.cut)):
-                    file = file_in(folder, f"font-{len(found)}-{number}", font)
-                    shown = file_in(folder, f"{len(found)}-{number}.html", _page(one.page, file, boxed).encode())
-                    pictures.add(_picture(browser, _address(shown)))
+                for is_cut in False, True:
+                    shown = one.shown(folder, is_cut, boxed)
+                    file = file_in(folder, f"{len(found)}-{is_cut}.html", shown.encode("utf-8", "replace"))
+                    pictures.add(_picture(browser, _address(file)))
                 is_same = len(pictures) == 1
                 found.append("" if is_same else "it is drawn otherwise by the cut than by the whole font")
             except Failed as failed:
@@ -135,7 +199,7 @@ def _differences(program: str, every: Sequence[Drawn]) -> List[str]:
     return found
 
 
-def check(every: Sequence[Drawn]) -> None:
+def check(every: Sequence[Compared]) -> None:
     """Raises `Refused` for the first page that is not drawn by a cut as by the whole font."""
     program, count = _program(), min(processors(), -(-len(every) // _LEAST))
     parts = [every[first::count] for first in range(count)]

@@ -40,7 +40,7 @@ def varying(data: bytes, face: Face) -> Face:
     """The face of a font that stays variable, whose default instance has this face: with the range of weights of the
     axis `wght`, of widths of `wdth`, and of slants of `slnt`, which counts the degrees the other way round (CSS Fonts
     4, `font-style`). No value of CSS is a range of `ital`."""
-    axes = _axes(TTFont(io.BytesIO(data), lazy=True))
+    axes = axes_of(data)
     if "wght" in axes:
         least, most = axes["wght"]
         face = face._replace(weight=_range(max(least, 1), min(most, 1000), ""))
@@ -54,16 +54,34 @@ def varying(data: bytes, face: Face) -> Face:
 
 def is_variable(data: bytes) -> bool:
     """Whether a font has axes."""
-    return bool(_axes(TTFont(io.BytesIO(data), lazy=True)))
+    return bool(axes_of(data))
 
 
-def _axes(font: TTFont) -> Dict[str, Tuple[float, float]]:
-    """The least and the greatest value of each axis."""
+def _axes(data: bytes) -> Dict[str, Tuple[float, float, float]]:
+    """The least, the default and the greatest value of each axis of a font."""
     try:
+        font = TTFont(io.BytesIO(data), lazy=True)
         axes = font["fvar"].axes if "fvar" in font else []
     except MALFORMED:
         axes = []
-    return {str(axis.axisTag): (axis.minValue, axis.maxValue) for axis in axes}
+    return {str(axis.axisTag): (axis.minValue, axis.defaultValue, axis.maxValue) for axis in axes}
+
+
+def axes_of(data: bytes) -> Dict[str, Tuple[float, float]]:
+    """The least and the greatest value of each axis of a font."""
+    return {tag: (least, most) for tag, (least, _, most) in _axes(data).items()}
+
+
+def limits_in(data: bytes, tag: str, limit: Union[None, float, Tuple[float, float]]) -> Tuple[float, float]:
+    """The values of an axis of a font that stay by a limit: a range, one value, or for `None` the default one."""
+    default = default_place(data).get(tag, 0.0)
+    at = default if limit is None else limit
+    return at if isinstance(at, tuple) else (at, at)
+
+
+def default_place(data: bytes) -> Dict[str, float]:
+    """The default value of each axis of a font."""
+    return {tag: default for tag, (_, default, _) in _axes(data).items()}
 
 
 def _range(least: float, most: float, unit: str) -> str:

@@ -4,7 +4,7 @@ from __future__ import annotations
 import io
 from typing import Iterable, List, NamedTuple, Sequence, Set
 
-from fontcut_needed import using_joiners
+import fontcut
 from fontTools import unicodedata as properties
 from fontTools.ttLib import TTFont
 
@@ -24,8 +24,8 @@ def _listed(opened: TTFont) -> Set[str]:
 
 def _shaped(opened: TTFont, codes: Iterable[int]) -> List[str]:
     """The scripts of characters whose letters join or change places, and that a font shapes."""
-    tags, joining = _listed(opened), using_joiners()
-    scripts = {properties.script(chr(code)) for code in codes if chr(code) in joining}
+    tags = _listed(opened)
+    scripts = {properties.script(chr(code)) for code in fontcut.joining(list(codes))}
     return [script for script in sorted(scripts - {"Zyyy", _INHERITED, "Zzzz"})
             if tags & {_DEFAULT, *properties.ot_tags_from_script(script)}]
 
@@ -63,5 +63,5 @@ def dropped(name: str, font: bytes, codes: Iterable[int], kind: str) -> List[str
     except MALFORMED:
         # A table that fontTools does not read shapes nothing and has no axes.
         return []
-    said = [f"{name} shapes {', '.join(scripts)}, which a {kind} cut drops: add --layout"] if scripts else []
-    return said + ([f"{name} varies {', '.join(axes)}: add --variable, or --quiet"] if axes else [])
+    said = [f"{name} shapes {', '.join(scripts)}, which a {kind} cut drops: take --layout"] if scripts else []
+    return said + ([f"{name} varies {', '.join(axes)}: take --variable, or --quiet"] if axes else [])

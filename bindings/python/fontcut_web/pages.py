@@ -12,11 +12,11 @@ from .common import Refused
 from .elements import Elements, Placed
 
 # Elements whose text is not drawn in a page. Browsers show titles beside it, in a font of the system.
-_SILENT = "script", "style", "title"
+SILENT = "script", "style", "title"
 # Types of inputs whose value is not drawn.
 _UNDRAWN = "hidden", "checkbox", "radio", "range", "color", "file", "image"
 # Elements that are parts of a line, so that a word may go on across their ends.
-_INLINE = frozenset("""a abbr acronym b bdi bdo big cite code data del dfn em font i ins kbd label mark q rp rt ruby s
+INLINE = frozenset("""a abbr acronym b bdi bdo big cite code data del dfn em font i ins kbd label mark q rp rt ruby s
     samp small span strike strong sub sup time tt u var wbr""".split())
 # Types of scripts that run, and of fields that readers write to.
 _RUNNING = "", "module", "text/javascript", "application/javascript"
@@ -35,7 +35,7 @@ _BROWSERS = {"iso8859-1": "windows-1252", "ascii": "windows-1252", "utf-16": "ut
 _SOFT_HYPHEN, _HYPHENS, _BLANKS = "\u00ad", "-\u2010", set("\t\n\f\r")
 
 
-def _is_drawn(name: str, tag: str, kind: str, is_listed: bool) -> bool:
+def is_drawn(name: str, tag: str, kind: str, is_listed: bool) -> bool:
     """Whether an attribute of an element is drawn: for a picture, in a field, on a button or in a list. An input has a
     type, and options that are listed may be chosen for a field."""
     if tag == "input" and kind == "hidden":
@@ -43,6 +43,12 @@ def _is_drawn(name: str, tag: str, kind: str, is_listed: bool) -> bool:
     if name == "value":
         return tag == "li" or tag == "option" and is_listed or tag == "input" and kind not in _UNDRAWN
     return name in ("alt", "placeholder") or name == "label" and tag in ("option", "optgroup")
+
+
+def is_field(tag: str, given: Mapping[str, str]) -> bool:
+    """Whether readers write to an element with these attributes."""
+    is_input = tag == "input" and given.get("type", "").lower() in _WRITTEN
+    return is_input or tag in ("textarea", "select") or given.get("contenteditable", "false").lower() in _EDITED
 
 
 def lines_of(text: str) -> List[str]:
@@ -91,11 +97,11 @@ class _Reader(HTMLParser):
         for name, value in given.items():
             self.attributes.setdefault(name, {})[value] = None
         kind = given.get("type", "").lower()
-        drawn = [value for name, value in attrs if value and _is_drawn(name, tag, kind, self.is_listing)]
+        drawn = [value for name, value in attrs if value and is_drawn(name, tag, kind, self.is_listing)]
         self.texts += drawn
-        self.running += [*(f"\n{text}\n" for text in drawn), *([] if tag in _INLINE else ["\n"])]
+        self.running += [*(f"\n{text}\n" for text in drawn), *([] if tag in INLINE else ["\n"])]
         self.is_listing = self.is_listing or tag == "datalist"
-        if tag in _SILENT:
+        if tag in SILENT:
             self.silent = tag
         if tag == "title":
             # There is no element within it (HTML, RCDATA state): what looks like a tag is text.
@@ -113,8 +119,7 @@ class _Reader(HTMLParser):
         self.directions |= {"override"} if tag == "bdo" else {given.get("dir", "").lower()} & {"rtl"}
         if tag == "script" and given.get("type", "").lower() in _RUNNING or any(name[:2] == "on" for name in given):
             found["writers"].append("scripts")
-        is_field = tag in ("textarea", "select") or tag == "input" and given.get("type", "").lower() in _WRITTEN
-        if is_field or given.get("contenteditable", "false").lower() in _EDITED:
+        if is_field(tag, given):
             found["writers"].append("fields")
         if tag in ("ol", "li"):
             found["made"] += [counters.of_type(given.get("type", "")), counters.digits() if tag == "ol" else ""]
@@ -123,7 +128,7 @@ class _Reader(HTMLParser):
 
     def handle_endtag(self, tag: str) -> None:
         self.elements.end(tag)
-        if tag not in _INLINE:
+        if tag not in INLINE:
             self.running.append("\n")
         if tag == "title":
             # One that ends with its start, as in SVG, would silence what follows.

@@ -69,10 +69,10 @@ def wanted_of(font: fontcut.Font, codes: List[int], letters: Set[str], blocks: S
     """What a font is prepared for, whose code points among these letters are those, with blocks of pages to try it
     with."""
     lines = list(dict.fromkeys(block for some in blocks for block in some))[:_MOST_LINES]
-    return Wanted(codes, sorted(set(map(ord, letters)) - set(codes)), [*lines, *_samples(font, set(map(chr, codes)))])
+    return Wanted(codes, sorted(set(map(ord, letters)) - set(codes)), [*lines, *samples(font, set(map(chr, codes)))])
 
 
-def _samples(font: fontcut.Font, kept: Set[str]) -> List[str]:
+def samples(font: fontcut.Font, kept: Set[str]) -> List[str]:
     """Texts of kept characters that take no character of the font that is not kept."""
     texts = characters.samples(kept)
     taken = [set(fontcut.needed(text)) - kept for text in texts]
@@ -138,7 +138,7 @@ def _is_prepared_from(path: str, font: str) -> bool:
     return False
 
 
-def _is_prepared(path: str) -> bool:
+def is_prepared(path: str) -> bool:
     """Whether what stands beside a font says that it was prepared as it is."""
     with contextlib.suppress(OSError, ValueError, LookupError, TypeError, RecursionError):
         known: object = json.loads(read(f"{path}.json"))["out"]["sha256"]
@@ -159,7 +159,7 @@ def _check_out(given: argparse.Namespace) -> None:
         raise UsageError(f"{out} is no file: OUT.json is written beside OUT")
     if _is_prepared_from(given.font, out):
         raise UsageError(f"{out} is the font, and {given.font} was prepared from it: nothing was written")
-    if not given.force and not _is_prepared(out):
+    if not given.force and not is_prepared(out):
         check_unpacked(out, [])
 
 

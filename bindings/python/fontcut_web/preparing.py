@@ -14,12 +14,17 @@ from fontTools.varLib.instancer import instantiateVariableFont
 
 from .common import Refused, UsageError
 from .malformed import MALFORMED
+from .woff import with_tables
 
 VERSION: str = fontTools.version
 _KERN, _ALL = "kern", "*"
 _TAG = re.compile(r"[\x20-\x7e]{4}")
 _NUMBER = r"-?\d+(?:\.\d+)?"
 _LIMIT = re.compile(rf"([\x21-\x7e]{{4}})=(?:(drop)|({_NUMBER})(?::({_NUMBER}))?)")
+
+# Tables that are made for some characters where outlines stay as they are, and others that fontTools reads for them.
+_FITTED = frozenset("BASE GDEF GPOS GSUB HVAR VVAR kern name".split())
+_SMALL = frozenset("OS/2 STAT cmap fvar head hhea maxp post".split())
 
 # The values of an axis that stay: one, a range, or the default one.
 Limit = Union[None, float, Tuple[float, float]]
@@ -187,6 +192,21 @@ def prepared(data: bytes, how: PrepareOptions, scripts: Iterable[str]) -> Prepar
     read it, or an axis has other values."""
     try:
         return _subset(data, how, scripts)
+    except MALFORMED as error:
+        raise Refused(f"fontTools cannot prepare it: {' '.join(str(error).split()) or type(error).__name__}") from error
+
+
+def with_layout_for(data: bytes, how: PrepareOptions, scripts: Iterable[str]) -> bytes:
+    """A font that is accepted, and whose layout tables, names and variations of metrics have what is to stay. Its
+    outlines are all there: cuts drop them, much faster than fontTools. Raises `Refused` where fontTools cannot read
+    it."""
+    try:
+        font = TTFont(io.BytesIO(data), recalcBBoxes=False, recalcTimestamp=False, lazy=True)
+        for tag in set(font.keys()) - _SMALL - _FITTED - {"GlyphOrder"}:
+            del font[tag]
+        small = TTFont(io.BytesIO(_subset(_saved(font), how, scripts).data), lazy=True)
+        tables = {tag: small.reader[tag] if tag in small.reader else None for tag in _FITTED}
+        return with_tables(data, tables)
     except MALFORMED as error:
         raise Refused(f"fontTools cannot prepare it: {' '.join(str(error).split()) or type(error).__name__}") from error
 

@@ -17,7 +17,7 @@ SIZES = FEW_BYTES, FEW_FILES = "few-bytes", "few-files"
 # How many slices a language has, and how many characters each of those has at least that follow the first ones.
 PARTS, LEAST = 100, 50
 # What an order ranks after the characters that it lists.
-_IDEOGRAPHS = "U+3400-4DBF, U+4E00-9FFF, U+F900-FAFF, U+20000-323AF"
+_IDEOGRAPHS = "U+3400-4DBF U+4E00-9FFF U+F900-FAFF U+20000-323AF"
 
 # What languages.json says of a language: ranges, and counts of slices with how many characters each has.
 _Said = TypedDict("_Said", {"signs": str, "few-bytes": List[Tuple[int, int]], "few-files": List[Tuple[int, int]]})
@@ -37,19 +37,25 @@ def _text(name: str) -> str:
         return opened.read()
 
 
-def _lines(name: str) -> Dict[str, str]:
+def _ranges(words: str) -> List[fontcut.Range]:
+    """The ranges of a list of this package, ascending. A build writes the presets, so this needs no library."""
+    rows: List[Tuple[str, str]] = re.findall(r"U\+([0-9A-F]+)(?:-([0-9A-F]+))?", words)
+    return sorted(fontcut.Range(int(first, 16), int(last or first, 16)) for first, last in rows)
+
+
+def _lines(name: str) -> Dict[str, List[fontcut.Range]]:
     rows = (line.partition(" ") for line in _text(name).splitlines() if not line.startswith("#"))
-    return {name: words for name, _, words in rows}
+    return {name: _ranges(words) for name, _, words in rows}
 
 
 @functools.lru_cache(maxsize=None)
-def web() -> Dict[str, str]:
+def web() -> Dict[str, List[fontcut.Range]]:
     """The ranges of the subsets of Google Fonts, by their names there."""
     return _lines("web.txt")
 
 
 @functools.lru_cache(maxsize=None)
-def scripts() -> Dict[str, str]:
+def scripts() -> Dict[str, List[fontcut.Range]]:
     """The ranges of all other scripts, by their names in Unicode."""
     return _lines("scripts.txt")
 
@@ -81,7 +87,7 @@ def language(name: str) -> Language:
     """What is known of a language. Its order ends with the ideographs of which nothing is known, by their codes."""
     said = _languages()[name]
     order = dict.fromkeys(characters_of(_text(f"{name}.txt")))
-    order.update((code, None) for code in codes_in(fontcut.ranges(_IDEOGRAPHS)))
+    order.update((code, None) for code in codes_in(_ranges(_IDEOGRAPHS)))
     rows = {FEW_BYTES: said["few-bytes"], FEW_FILES: said["few-files"]}
     sizes = {size: [each for count, each in rows[size] for _ in range(count)] for size in SIZES}
-    return Language(fontcut.ranges(said["signs"]), list(order), sizes)
+    return Language(_ranges(said["signs"]), list(order), sizes)

@@ -69,7 +69,7 @@ def _subject(selector: str) -> Subject:
     return Subject(tag, name, frozenset(word.lower() for mark, word in parts if mark == "."))
 
 
-def _subjects(prelude: str) -> List[Subject]:
+def subjects_of(prelude: str) -> List[Subject]:
     """What the elements of a list of selectors may be."""
     text = ESCAPE.sub(lambda found: plain(_escaped(found)), re.sub(STRING, "", prelude))
     before = ""
@@ -81,7 +81,7 @@ def _subjects(prelude: str) -> List[Subject]:
 def _within(prelude: str, around: List[Subject]) -> List[Subject]:
     """What the elements of a block may be that has this before it. Conditions leave it to the block around."""
     prelude = prelude.strip()
-    return around if prelude.startswith("@") else _subjects(prelude)
+    return around if prelude.startswith("@") else subjects_of(prelude)
 
 
 def rules_of(sheet: str) -> Iterator[Rule]:

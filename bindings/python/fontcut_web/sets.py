@@ -185,7 +185,7 @@ def _preset(word: str, order: Sequence[int]) -> Asked:
     if size:
         sizes = " or ".join(f"{language}:{one}" for language in presets.languages()[:1] for one in presets.SIZES)
         raise UsageError(f"{word}: sizes are for Chinese, Japanese and Korean: write {sizes}")
-    return Listed(name, fontcut.ranges({**presets.web(), **presets.scripts()}[name]))
+    return Listed(name, {**presets.web(), **presets.scripts()}[name])
 
 
 def _lines(path: str) -> Iterator[Listed]:

@@ -34,12 +34,32 @@ class Shown(NamedTuple):
     unknown: List[str]
 
 
-def shown_by(page: Page, path: str, more: Sequence[Features], text: str = "") -> Shown:
-    """What a page in a file shows, with its style sheets, with more sets of features, and with more text."""
+class Added(NamedTuple):
+    """What browsers add to the text of a page: texts, whatever elements these are of, and the cases that they change
+    text to."""
+
+    texts: List[str]
+    cases: List[str]
+
+
+def _added(page: Page, styles: Styles) -> Added:
+    texts = [*page.made, *styles.texts, *(quotes_of(page.languages) for _ in range(page.has_quotes)),
+             *(value for name in styles.attributes for value in page.attributes.get(name, ()))]
+    return Added(texts, styles.cases)
+
+
+def added_to(page: Page, path: str) -> Added:
+    """What browsers add to the text of a page in a file."""
+    sheets, _ = sheets_of(page, path)
+    return _added(page, styles_of(sheets, page.attributes.get("style", ()), page.languages))
+
+
+def shown_by(page: Page, path: str, more: Sequence[Features], text: str = "", is_all: bool = False) -> Shown:
+    """What a page in a file shows, with its style sheets, with more sets of features, and with more text. The text of
+    one that has all has what browsers add."""
     sheets, lost = sheets_of(page, path)
     styles = styles_of(sheets, page.attributes.get("style", ()), page.languages)
-    added = [*page.made, *styles.texts, *(quotes_of(page.languages) for _ in range(page.has_quotes)),
-             *(value for name in styles.attributes for value in page.attributes.get(name, ()))]
+    added = [] if is_all else _added(page, styles).texts
     blocks = [*page.blocks, *lines_of("\n".join([*added, text]))]
     blocks += [other for case in styles.cases for block in blocks for other in cased(block, case, page.languages)]
     sets = _with_more(feature_sets(page.elements, styles.rules, "scripts" in page.writers), more)

@@ -11,7 +11,7 @@ from fontcut_output import Progress, print_line
 
 from . import sequences
 from .common import Refused, need
-from .inputs import mapped
+from .inputs import accepted, mapped
 from .sets import codes_of, range_words
 from .shown import BY_FEATURES, FIELDS
 from .site_fonts import Base, Run, Wished, bases, programs, sections, wished
@@ -19,6 +19,7 @@ from .site_pages import Modes, SitePage, languages_of, modes_of, pages_of
 from .site_report import REPORT, Made, is_ours, lacking, lines, report, sheets
 from .site_settings import Settings, named, settings_of
 from .site_state import NOTHING, FontState, Place, State, bytes_at, put_text
+from .site_text import SiteFont, views
 
 
 def _names(settings: Settings) -> List[str]:
@@ -39,10 +40,18 @@ def _names(settings: Settings) -> List[str]:
 def _bases(run: Run, settings: Settings, pages: Sequence[SitePage], before: State) -> List[Tuple[Base, List[SitePage]]]:
     """The fonts that are prepared, each with its pages, which have characters of it."""
     names, languages = [page.name for page in pages], languages_of(settings, pages)
+    fonts = [SiteFont(font, name, accepted(font.file), named(settings, os.path.basename(font.file), font.pages, names))
+             for font, name in zip(settings.fonts, _names(settings))]
+    seen = views(settings, fonts, pages)
+    run.said.extend(seen.said)
     every: List[Wished] = []
-    for font, name in zip(settings.fonts, _names(settings)):
-        its = named(settings, os.path.basename(font.file), font.pages, names)
-        every += wished(font, name, [page for page in pages if page.name in its], languages, before)
+    for font, its in zip(fonts, seen.pages):
+        wishes = wished(font.settings, font.name, font.whole, its, languages, before)
+        if not wishes and not any(page.name in font.pages and mapped(font.whole, page.letters) for page in pages):
+            raise Refused(f"{font.settings.file}: it maps no character of its pages")
+        if not wishes:
+            run.said.append(f"{font.settings.file}: no text of its pages is drawn in it")
+        every += wishes
     return [(base, [page for page in one.pages if mapped(base.font, page.letters)])
             for one, base in zip(every, bases(run, every))]
 
@@ -70,6 +79,7 @@ def _check_ours(place: Place, before: State, names: Sequence[str]) -> None:
 def _told(modes: Modes, found: Sequence[Tuple[Base, List[SitePage]]], pages: Sequence[SitePage]) -> Iterator[str]:
     """What is not known of pages, and which characters no font of theirs has."""
     fonts: Dict[str, List[fontcut.Font]] = {page.name: [] for page in pages}
+    shows = [(base, {page.name for page in some}) for base, some in found]
     for base, some in found:
         for page in some:
             fonts[page.name].append(base.whole)
@@ -78,13 +88,14 @@ def _told(modes: Modes, found: Sequence[Tuple[Base, List[SitePage]]], pages: Seq
         if page.name not in modes.exact | modes.closed:
             yield from (f"{line.replace(BY_FEATURES, '')}: its cuts are closed, unless it is named as exact"
                         for line in page.shown.unknown if not line.endswith(FIELDS))
-        its = [base for base, some in found if page in some]
+        its = [base for base, some in shows if page.name in some]
         if page.shown.has_fields and not page.written.letters and not any(base.settings.languages for base in its):
             yield (f"{page.shown.path}: readers write to it, and letters that it does not show are of no font of it: "
                    "name languages of the page or of a font")
     yield from (f"{name}: no font of it has {range_words(codes)}" for name, codes in lacking(shown, fonts))
     for page in shown:
-        its_fonts = [(os.path.basename(base.settings.file), base.whole.data) for base, some in found if page in some]
+        its_fonts = [(os.path.basename(base.settings.file), base.whole.data) for base, some in shows
+                     if page.name in some]
         yield from (f"{page.name}: {line}" for line in sequences.told(page.shown.text, its_fonts))
 
 

@@ -9,14 +9,16 @@ import fontcut
 from fontcut_output import Progress
 
 from . import drawn, preparing, shaped, shaping
+from .axes import kind_for
 from .common import SHAPED, Refused, codes_in
-from .faces import Face, face_of, is_variable, varying
+from .faces import Face, face_of, varying
 from .inputs import accepted, mapped, refusing
 from .prepare import made_of, wanted_of
 from .preparing import PrepareOptions
 from .processes import side_by_side
-from .sets import range_words
+from .sets import codes_of, range_words
 from .shaped import Known, Said
+from .sheet import declarations
 from .site_pages import CLOSED, EXACT, Modes, SitePage
 from .site_settings import FILE, FontSettings
 from .site_state import FontState, Place, SectionState, State, digest, digest_of
@@ -110,17 +112,15 @@ def key_of(name: str, languages: str) -> str:
     return f"{name}:{languages}" if languages else name
 
 
-def wished(one: FontSettings, name: str, pages: Sequence[SitePage], languages: Mapping[str, str], before: State
-           ) -> List[Wished]:
+def wished(one: FontSettings, name: str, whole: fontcut.Font, pages: Sequence[SitePage], languages: Mapping[str, str],
+           before: State) -> List[Wished]:
     """A font for pages, once for each of these lists of languages, by the name of the page, of which it has characters.
     """
-    whole, found = accepted(one.file), []  # type: fontcut.Font, List[Wished]
+    found: List[Wished] = []
     for its in dict.fromkeys(languages[page.name] for page in pages):
         some = [page for page in pages if languages[page.name] == its]
         if mapped(whole, _letters(one, some)):
             found.append(Wished(one, name, whole, its, some, before.fonts.get(key_of(name, its))))
-    if not found:
-        raise Refused(f"{one.file}: it maps no character of its pages")
     return found
 
 
@@ -198,7 +198,7 @@ def _base(run: Run, one: Wished, state: FontState) -> Base:
     """A font that is prepared, with its face."""
     how, path = one.settings, os.path.join(run.place.work, state.prepared.name)
     font = accepted(path)
-    kind = how.kind or ("variable" if is_variable(font.data) else "layout")
+    kind = how.kind or kind_for(font.data, [(page.page, page.path) for page in one.pages])
     face = face_of(font.data, one.name)
     face = varying(font.data, face) if kind == "variable" else face
     face = Face(how.family or face.family, how.style or face.style, how.weight or str(face.weight), face.stretch)
@@ -299,6 +299,20 @@ def _written(run: Run, one: Section, cut: Cut) -> SectionState:
                         run.place.put(run.place.output, file_name, ".woff2", cut.woff2 or b""))
 
 
+def _compared(every: Sequence[Section], cuts: Sequence[Cut]) -> List[drawn.Compared]:
+    """The pages that have changed, with their fonts and new cuts: all of a page by each font, or if fonts have parts of
+    it, all of these at once."""
+    made = [(one, cut, page) for one, cut in zip(every, cuts) if cut.woff2 is not None for page in one.changed()]
+    found: List[drawn.Compared] = [drawn.Drawn(page.path, one.base.whole.data, cut.woff2 or b"")
+                                   for one, cut, page in made if not page.is_part]
+    for path in dict.fromkeys(page.path for _, _, page in made if page.is_part):
+        fonts = [drawn.Family(one.base.face.family, declarations(one.base.face), one.base.whole.data,
+                              cut.woff2 or cut.data, range_words(codes_of(cut.data)))
+                 for one, cut in zip(every, cuts) if any(page.path == path for page in one.pages)]
+        found.append(drawn.DrawnBy(path, fonts))
+    return found
+
+
 def sections(run: Run, found: Sequence[Tuple[Base, Sequence[SitePage]]], modes: Modes) -> List[FontState]:
     """The states of fonts with the cuts of their sections, which are made side by side."""
     every = [_section(run, base, name, [page for page in pages if page.section == name], modes)
@@ -306,8 +320,7 @@ def sections(run: Run, found: Sequence[Tuple[Base, Sequence[SitePage]]], modes: 
     cuts = side_by_side([functools.partial(_made, run, one) for one in every])
     if run.is_drawn:
         run.progress.say("drawing pages")
-        drawn.check([drawn.Drawn(page.path, one.base.whole.data, cut.woff2)
-                     for one, cut in zip(every, cuts) if cut.woff2 is not None for page in one.changed()])
+        drawn.check(_compared(every, cuts))
     states: Dict[str, FontState] = {base.key: base.state._replace(sections={}) for base, _ in found}
     for one, cut in zip(every, cuts):
         state = states[one.base.key]

@@ -6,6 +6,7 @@ from typing import Dict, List, NamedTuple, Sequence, Set
 
 from .common import UsageError
 from .inputs import read_pages
+from .pages import Page
 from .shown import Shown, letters_of, shown_by
 from .site_settings import SITE, FontSettings, Settings, named, page_names, sections_of
 from .site_state import digest_of
@@ -16,17 +17,24 @@ EXACT, CLOSED = "exact", "closed"
 
 
 class SitePage(NamedTuple):
-    """A page: its name, which is its path from the folder of the site; its section; its file; what it shows; the
-    characters of that, with those that a shaper takes for them; what is written to it; and a digest of all that its
-    cuts depend on."""
+    """A page: its name, which is its path from the folder of the site; its section; its file; what is read of it; what
+    it shows; the characters of that, with those that a shaper takes for them; what is written to it; a digest of all
+    that its cuts depend on; and whether what it shows is the part of a font."""
 
     name: str
     section: str
     path: str
+    page: Page
     shown: Shown
     letters: Set[str]
     written: Written
     digest: str
+    is_part: bool = False
+
+    def seen(self, shown: Shown) -> SitePage:
+        """The page as a font shows it that draws this of it alone."""
+        return self._replace(shown=shown, letters=letters_of(shown), digest=_digest(shown, self.written),
+                             is_part=True)
 
 
 class Modes(NamedTuple):
@@ -45,7 +53,13 @@ class Modes(NamedTuple):
         return EXACT if is_known and page.name not in self.closed else CLOSED
 
 
-def _is_own(settings: Settings, name: str, address: str) -> bool:
+def _digest(shown: Shown, written: Written) -> str:
+    """A digest of what the cuts of a page depend on."""
+    return digest_of([shown.text, shown.blocks, shown.languages, sorted(shown.directions), shown.features,
+                      written.digest])
+
+
+def is_own(settings: Settings, name: str, address: str) -> bool:
     """Whether a page links a style sheet of the output, which says nothing of its text."""
     path = parts_of(address)[1]
     if settings.address and path.startswith(f"{parts_of(settings.address)[1].rstrip('/')}/"):
@@ -58,11 +72,9 @@ def _page(settings: Settings, name: str, section: str, written: Written) -> Site
     """What is read of a page, to which this is written."""
     path = os.path.join(settings.folder, name)
     page, = read_pages([path])
-    page = page._replace(links=[link for link in page.links if not _is_own(settings, name, link)])
+    page = page._replace(links=[link for link in page.links if not is_own(settings, name, link)])
     shown = shown_by(page, path, [], written.text)
-    read = digest_of([shown.text, shown.blocks, shown.languages, sorted(shown.directions), shown.features,
-                      written.digest])
-    return SitePage(name, section, path, shown, letters_of(shown), written, read)
+    return SitePage(name, section, path, page, shown, letters_of(shown), written, _digest(shown, written))
 
 
 def pages_of(settings: Settings) -> List[SitePage]:

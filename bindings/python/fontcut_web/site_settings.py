@@ -19,6 +19,8 @@ WORK = ".fontcut"
 _STYLES = "", "normal", "italic", "oblique"
 # Whether fonts are prepared once for the pages in each language, or for the whole site.
 LANGUAGE, SITE = "language", "site"
+# Whether fonts have the text of the elements that have their family, weight and style, or all text of their pages.
+FAMILY, PAGE = "family", "page"
 _NAMES, _KERNS = ("keep", "least"), ("auto", "keep", "drop")
 _KINDS = "", "lean", *SHAPED
 # A key of TOML that needs no quotation marks, which can be the name of a file too.
@@ -71,6 +73,12 @@ class Settings(NamedTuple):
     address: str = ""
     display: str = "swap"
     prepare_by: str = LANGUAGE
+    text_by: str = FAMILY
+
+    @property
+    def is_by_family(self) -> bool:
+        """Whether fonts have the text of their elements alone."""
+        return self.text_by == FAMILY
 
     @property
     def path(self) -> str:
@@ -187,6 +195,7 @@ def settings_of(folder: str) -> Settings:
                      written=[_written(path, number, page) for number, page in enumerate(pages, 1)], **values)
     _check_choice(path, "display", found.display, DISPLAYS)
     _check_choice(path, "prepare_by", found.prepare_by, (LANGUAGE, SITE))
+    _check_choice(path, "text_by", found.text_by, (FAMILY, PAGE))
     inside = os.path.relpath(os.path.realpath(found.output), os.path.realpath(folder))
     if inside == os.curdir or inside.split(os.sep)[0] in (os.pardir, WORK):
         raise UsageError(f"{path}: out has to be a folder below that of the site")

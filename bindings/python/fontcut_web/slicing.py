@@ -1,16 +1,20 @@
 """Fonts in slices: the cuts, their WOFF2 files, a style sheet and a page."""
 from __future__ import annotations
 
+import functools
 import os
-from typing import Dict, Iterator, List, Mapping, NamedTuple, Optional, Sequence, Set, Tuple
+from typing import Callable, Dict, Iterator, List, Mapping, NamedTuple, Optional, Sequence, Set, Tuple
 
 import fontcut
 from fontcut_output import Progress, write
 
+from . import fitted
 from .common import SHAPED, Refused
-from .faces import Face, face_of, varying
+from .faces import Face, face_of, is_variable, varying
 from .inputs import font_of, refusing
 from .notices import ShapedScript, dropped, shaped_scripts
+from .prepare import is_prepared, samples
+from .processes import side_by_side
 from .sets import REST, Asked, Slice, codes_of, divided, left_out, range_words, unsliced
 from .sheet import Placed, Styled, page, preloads, style_sheet
 from .woff import compressed_size, packed, without
@@ -18,18 +22,23 @@ from .woff import compressed_size, packed, without
 SHEET, PAGE = "fonts.css", "index.html"
 # How many characters are named that are in no slice.
 _NAMED = 5
-# How many slices are cut by one call, which holds all of them in memory.
+# How many slices are made before they are written, all of which are in memory.
 _AT_ONCE = 16
+# A font whose layout tables have so many bytes at most, prepared for all slices, is not prepared for each of them.
+_SHARED = 4096
 
 
 class Font(NamedTuple):
-    """A font that is accepted, with the slices that are wanted of it. `face` is what the style sheet says of it,
-    `shown` the face of its default instance, `base` begins the names of the files, and `unsliced` has the scripts of
-    which no character is in a slice, with how many characters the font has of each, and `left_out` the other
-    characters in no slice. `notices` are the lines that are said of all this, and of what the cuts drop."""
+    """A font that is accepted, with the slices that are wanted of it. `kind` is the kind of its cuts, and `is_fitted`
+    says whether it is prepared for them first. `face` is what the style sheet says of it, `shown` the face of its
+    default instance, `base` begins the names of the files, and `unsliced` has the scripts of which no character is in a
+    slice, with how many characters the font has of each, and `left_out` the other characters in no slice. `notices` are
+    the lines that are said of all this, and of what the cuts drop."""
 
     path: str
     font: fontcut.Font
+    kind: str
+    is_fitted: bool
     face: Face
     shown: Face
     slices: List[Slice]
@@ -48,11 +57,11 @@ class Written(NamedTuple):
 
 
 class SliceOptions(NamedTuple):
-    """How slices are written: of which kind of cut, and what besides; the tables that fonts are taken to lack; and
-    whether a last slice has the characters that are left out, and whether equal slices divide scripts that are
-    shaped."""
+    """How slices are written: of which kind of cut, which is layout or variable, as the font is, if none is named, and
+    what besides; the tables that fonts are taken to lack; whether a last slice has the characters that are left out,
+    whether equal slices divide scripts that are shaped, and whether fonts are cut as they are."""
 
-    kind: str = "lean"
+    kind: Optional[str] = None
     woff2: bool = False
     css: bool = False
     display: str = "swap"
@@ -60,6 +69,11 @@ class SliceOptions(NamedTuple):
     drop: Sequence[str] = ()
     rest: bool = False
     is_dividing: bool = False
+    as_is: bool = False
+
+    def kind_of(self, font: bytes) -> str:
+        """The kind of cuts of a font."""
+        return self.kind or ("variable" if is_variable(font) else "layout")
 
 
 def accepted(path: str, how: SliceOptions) -> fontcut.Font:
@@ -69,7 +83,7 @@ def accepted(path: str, how: SliceOptions) -> fontcut.Font:
         font = fontcut.Font(without(data, how.drop) if how.drop else data)
         # Tables of layout and of variations are refused for some kinds alone: here, and not when other fonts are
         # written already.
-        fontcut.cut_size(font, [], kind=how.kind)
+        fontcut.cut_size(font, [], kind=how.kind_of(data))
     return font
 
 
@@ -103,10 +117,11 @@ def opened(paths: Sequence[str], asked: Sequence[Asked], how: SliceOptions) -> L
 def _opened(path: str, asked: Sequence[Asked], how: SliceOptions) -> Font:
     """A font and its slices, whose files have no names yet."""
     font = accepted(path, how)
+    kind = how.kind_of(font.data)
     shown = face_of(font.data, os.path.splitext(os.path.basename(path))[0])
-    face = varying(font.data, shown) if how.kind == "variable" else shown
+    face = varying(font.data, shown) if kind == "variable" else shown
     codes = codes_of(font)
-    scripts = shaped_scripts(font.data, codes) if how.kind in SHAPED else []
+    scripts = shaped_scripts(font.data, codes) if kind in SHAPED else []
     slices = divided(codes, asked, [] if how.is_dividing else [script.whole for script in scripts])
     if not slices:
         raise Refused(f"{path}: it maps no character of these slices")
@@ -117,8 +132,9 @@ def _opened(path: str, asked: Sequence[Asked], how: SliceOptions) -> Font:
         slices, rest = [*slices, Slice(REST, rest)], []
     notices = [*([lost_words(path, lost)] if lost else []), *([left_words(path, rest)] if rest else [])]
     notices += _divided_words(path, scripts, divided(codes, asked), slices)
-    notices += dropped(path, font.data, (code for one in slices for code in one.codes), how.kind)
-    return Font(path, font, face, shown, slices, "", lost, rest, notices)
+    notices += dropped(path, font.data, (code for one in slices for code in one.codes), kind)
+    is_fitted = kind in SHAPED and not how.as_is and not is_prepared(path)
+    return Font(path, font, kind, is_fitted, face, shown, slices, "", lost, rest, notices)
 
 
 def _divided_words(path: str, scripts: Sequence[ShapedScript], plain: Sequence[Slice], slices: Sequence[Slice]
@@ -154,29 +170,83 @@ def _put(folder: str, name: str, data: bytes) -> Tuple[str, int]:
     return name, len(data)
 
 
-def _cuts(font: Font, kind: str) -> Iterator[Tuple[Slice, bytes]]:
-    """The slices of a font, each with its cut of a kind."""
+class Base(NamedTuple):
+    """What slices of a font are cut of: the font as it is, or prepared, and then perhaps once more for each of them."""
+
+    font: fontcut.Font
+    is_for_each: bool
+
+
+def _base_of(font: Font) -> Base:
+    """What the slices of a font are cut of. Raises `Refused` where it is to be prepared and cannot be. A prepared font
+    has layout tables for all slices, if these are small: those for Chinese, Japanese and Korean mostly are, whose
+    slices are many."""
+    if not font.is_fitted:
+        return Base(font.font, False)
+    every = sorted({code for one in font.slices for code in one.codes})
+    base = fitted.fitted(font.font, every, font.kind)
+    return Base(base, len(font.slices) > 1 and fitted.layout_size(base) > _SHARED)
+
+
+def _cut(font: Font, base: Base, one: Slice) -> bytes:
+    """The cut of a font for a slice, which shapes texts of its characters as the font does."""
+    source = base.font
+    if base.is_for_each:
+        with refusing(font.path):
+            source = fitted.fitted(source, one.codes, font.kind)
+    with refusing(font.path):
+        cut = fontcut.cut(source, one.codes, kind=font.kind)
+    if font.is_fitted:
+        fitted.check(font.path, font.font, cut, font.kind, samples(font.font, set(map(chr, one.codes))))
+    return cut
+
+
+def _made(font: Font, make: Callable[[], bytes], is_packed: bool) -> Tuple[bytes, Optional[bytes]]:
+    """A cut, and its WOFF2 file where one is wanted."""
+    cut = make()
+    with refusing(font.path):
+        return cut, packed(cut) if is_packed else None
+
+
+def _cuts(font: Font, base: Base, is_packed: bool) -> Iterator[Tuple[Slice, bytes, Optional[bytes]]]:
+    """The slices of a font, each with its cut and its WOFF2 file."""
     for at in range(0, len(font.slices), _AT_ONCE):
         some = font.slices[at:at + _AT_ONCE]
-        with refusing(font.path):
-            cuts = fontcut.slices(font.font, [one.codes for one in some], kind=kind)
-        yield from zip(some, cuts)
+        makes: List[Callable[[], bytes]] = [functools.partial(_cut, font, base, one) for one in some]
+        if not font.is_fitted:
+            # One call cuts the font faster for all of them.
+            with refusing(font.path):
+                whole = fontcut.slices(base.font, [one.codes for one in some], kind=font.kind)
+            makes = [functools.partial(bytes, cut) for cut in whole]
+        made = side_by_side([functools.partial(_made, font, make, is_packed) for make in makes])
+        yield from ((one, cut, small) for one, (cut, small) in zip(some, made))
 
 
-def _slices(fonts: Sequence[Font], folder: str, how: SliceOptions, progress: Progress) -> Iterator[List[Written]]:
+def _ready(font: Font) -> Tuple[Font, Base]:
+    """A font with what its slices are cut of. One that cannot be prepared is cut as it is, which is said."""
+    try:
+        return font, _base_of(font)
+    except Refused as refusal:
+        font.notices.append(fitted.as_it_is(font.path, refusal))
+        font = font._replace(is_fitted=False)
+        return font, _base_of(font)
+
+
+def _slices(fonts: Sequence[Font], folder: str, how: SliceOptions, progress: Progress
+            ) -> Iterator[Tuple[Font, List[Written]]]:
     """Writes the slices of each font."""
     count, number = sum(len(font.slices) for font in fonts), 0
     for font in fonts:
-        made: List[Written] = []
-        for one, cut in _cuts(font, how.kind):
+        progress.say("preparing it" if font.is_fitted else "cutting it", os.path.basename(font.path))
+        font, base = _ready(font)
+        written: List[Written] = []
+        for one, cut, small in _cuts(font, base, how.woff2):
             number += 1
             progress.say(f"slice {number} of {count}", os.path.basename(font.path))
             name = f"{font.base}-{one.name}"
-            with refusing(font.path):
-                small = packed(cut) if how.woff2 else None
-            made.append(Written(one, _put(folder, f"{name}.ttf", cut),
-                                None if small is None else _put(folder, f"{name}.woff2", small)))
-        yield made
+            written.append(Written(one, _put(folder, f"{name}.ttf", cut),
+                                   None if small is None else _put(folder, f"{name}.woff2", small)))
+        yield font, written
 
 
 def paths_of(fonts: Sequence[Font], folder: str, how: SliceOptions) -> List[str]:
@@ -191,10 +261,10 @@ def write_slices(fonts: Sequence[Font], folder: str, how: SliceOptions, progress
     was written, as `--json` prints it."""
     os.makedirs(folder, exist_ok=True)
     written = list(_slices(fonts, folder, how, progress))
-    told: Dict[str, object] = {"fonts": [_told(font, made) for font, made in zip(fonts, written)]}
+    told: Dict[str, object] = {"fonts": [_told(font, made) for font, made in written]}
     if how.css:
         styled = [Styled(font.face, font.shown, [Placed(one.slice, (one.woff2 or one.cut)[0]) for one in made])
-                  for font, made in zip(fonts, written)]
+                  for font, made in written]
         # The style sheet names files that are all there, and the page names the style sheet.
         sheet = style_sheet(styled, how.display, "slice").encode()
         _put(folder, SHEET, sheet)
@@ -210,5 +280,6 @@ def _told(font: Font, made: Sequence[Written]) -> Dict[str, object]:
         row = {"name": one.slice.name, "file": one.cut[0], "bytes": one.cut[1], "characters": len(one.slice.codes),
                "unicode_range": range_words(one.slice.codes)}
         rows.append({**row, **({"woff2": one.woff2[0], "woff2_bytes": one.woff2[1]} if one.woff2 else {})})
-    return {"font": font.path, **font.face._asdict(), "slices": rows, "in_no_slice": font.unsliced,
+    return {"font": font.path, "kind": font.kind, "prepared": font.is_fitted, **font.face._asdict(), "slices": rows,
+            "in_no_slice": font.unsliced,
             "left_out": range_words(font.left_out), "notices": font.notices}

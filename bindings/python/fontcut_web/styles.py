@@ -245,7 +245,7 @@ def parts_of(address: str) -> Tuple[str, str]:
     return ("", "") if "\0" in path else (parts.scheme + parts.netloc, path)
 
 
-def _file_of(address: str, folder: str) -> str:
+def file_of(address: str, folder: str) -> str:
     """The path of a style sheet that a page or another style sheet in a folder names, or an empty text."""
     host, path = parts_of(address)
     return "" if host or not path or path.startswith("/") else os.path.join(folder, path)
@@ -253,7 +253,7 @@ def _file_of(address: str, folder: str) -> str:
 
 def _linked(address: str, folder: str, seen: Set[str], lost: List[str]) -> Iterator[str]:
     """The text of a linked style sheet, and of those that it imports."""
-    path = _file_of(address, folder)
+    path = file_of(address, folder)
     if path in seen:
         return
     try:

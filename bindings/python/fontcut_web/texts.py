@@ -6,7 +6,7 @@ import contextlib
 import json
 import os
 import sys
-from typing import Dict, List, NamedTuple, Sequence, Set
+from typing import Dict, List, NamedTuple, Sequence, Set, Tuple
 
 import fontcut
 from fontcut_output import Progress, print_line, write
@@ -18,6 +18,9 @@ from .replaced import check_font, check_name, check_written, is_same
 from .sets import Slice, range_words
 from .shown import Shown, letters_of, shown_by
 
+# In so many sets of features texts are tried at most.
+_TRIED = 16
+
 
 class Cut(NamedTuple):
     """A cut of a font and its characters; what `--json` reports beside them, as its glyphs, and lines that warn."""
@@ -26,6 +29,30 @@ class Cut(NamedTuple):
     codes: List[int]
     report: Dict[str, object]
     warnings: List[str]
+
+
+def _is_prepared(given: argparse.Namespace, source: str) -> bool:
+    """Whether a font is prepared before it is cut: for cuts that have its layout tables, if it was not before."""
+    return given.kind in SHAPED and not given.as_is and not part("prepare").is_prepared(source)
+
+
+def _fitted(given: argparse.Namespace, font: fontcut.Font, shown: Sequence[Shown]) -> fontcut.Font:
+    """The font, prepared for pages. Raises `Refused` where that cannot be."""
+    codes = mapped(font, set().union(*map(letters_of, shown)))
+    features: Set[str] = set().union(*(page.turned_on for page in shown))
+    prepared: fontcut.Font = part("fitted").fitted(font, codes, given.kind, features)
+    return prepared
+
+
+def _check_shapes(given: argparse.Namespace, font: fontcut.Font, source: str, cut: Cut, shown: Sequence[Shown]) -> None:
+    """Raises `Refused` where the cut of a prepared font shapes text of pages otherwise than the font; other words of
+    their letters too, if it has what these take."""
+    letters = set(map(chr, cut.codes))
+    texts = part("prepare").wanted_of(font, cut.codes, letters, [page.blocks for page in shown]).texts
+    lines = {block for page in shown for block in page.blocks}
+    sets = [(), *{tuple(f"{tag}={value}" for tag, value in one) for page in shown for one in page.features if one}]
+    part("fitted").check(source, font, cut.data, given.kind,
+                         [text for text in texts if text in lines or not given.shaped], sorted(sets)[:_TRIED])
 
 
 def _closed(given: argparse.Namespace, font: fontcut.Font, shown: Sequence[Shown]) -> Cut:
@@ -63,8 +90,9 @@ def _check_words(given: argparse.Namespace) -> None:
         raise UsageError(f"--shaped is for layout and variable cuts, and --{given.kind} asks for another kind")
     if given.css and not out.endswith((".ttf", ".woff2")):
         raise UsageError(f"{out}: a style sheet is for a file whose name ends in .ttf or .woff2")
-    if given.features and not given.shaped:
-        raise UsageError("--features is for --shaped: other cuts have the glyphs of all features of their characters")
+    if given.features and not given.shaped and (given.as_is or given.kind not in (None, *SHAPED)):
+        raise UsageError("--features is for layout and variable cuts of a prepared font, and for --shaped: others have "
+                         "all features or none")
 
 
 def _lacking(given: argparse.Namespace, source: str, font: fontcut.Font, shown: Sequence[Shown]) -> List[int]:
@@ -81,9 +109,10 @@ def _lacking(given: argparse.Namespace, source: str, font: fontcut.Font, shown: 
 
 
 def _dropped(given: argparse.Namespace, source: str, font: fontcut.Font, cut: Cut, shown: Sequence[Shown]) -> List[str]:
-    """What is said of what the cut drops, where fontTools is there to know it."""
+    """What is said of what the cut drops, where fontTools is there to know it. Axes that no page uses are not missed.
+    """
     with contextlib.suppress(Missing):
-        lines: List[str] = part("notices").dropped(source, font.data, cut.codes, given.kind)
+        lines: List[str] = part("notices").dropped(source, font.data, cut.codes, given.kind) if given.named else []
         return lines + [f"{page.path}: {line}" for page in shown
                         for line in sequences.told(page.text, [(source, font.data)])]
     return []
@@ -110,14 +139,64 @@ def _write_sheet(given: argparse.Namespace, font: fontcut.Font, source: str, cod
 def _needed(given: argparse.Namespace) -> None:
     """Raises `Missing` where a package is not there that the words take."""
     is_packed = given.files[-1].lower().endswith(".woff2")
-    is_read = given.shaped or given.check or given.css
+    is_read = given.shaped or given.check or given.css or given.kind not in ("lean", "full")
     need(*["fontTools"] if is_packed or is_read else [], *["brotli"] if is_packed else [])
+
+
+def _base(given: argparse.Namespace, font: fontcut.Font, source: str, shown: Sequence[Shown]
+          ) -> Tuple[fontcut.Font, List[str]]:
+    """What is cut: the font, prepared where that is to be and can be; and what is said if it cannot."""
+    if not _is_prepared(given, source):
+        return font, []
+    # What is refused as it is is not refused for being prepared.
+    fontcut.cut_size(font, [], kind=given.kind)
+    try:
+        return _fitted(given, font, shown), []
+    except Refused as refusal:
+        return font, [part("fitted").as_it_is(source, refusal)]
+
+
+def _made(given: argparse.Namespace, font: fontcut.Font, source: str, shown: Sequence[Shown]) -> Cut:
+    """The cut of a font for pages; of what was prepared of it, if that is so."""
+    try:
+        base, said = _base(given, font, source, shown)
+        cut = _exact(given, base, source, shown) if given.shaped else _closed(given, base, shown)
+    except fontcut.Refused as refusal:
+        raise Refused(f"{source}: {refusal}") from refusal
+    if base is not font:
+        _check_shapes(given, font, source, cut, shown)
+    return cut._replace(report={**cut.report, "kind": given.kind, "prepared": base is not font},
+                        warnings=[*cut.warnings, *said])
+
+
+def _said(given: argparse.Namespace, source: str, out: str, length: int, cut: Cut) -> str:
+    """What is said of the cut that was written: whether the font was prepared for it, so that it joins with no other.
+    """
+    name = os.path.basename(source)
+    how = (f"{name}, which was prepared for it: it joins with no other cut; --as-is makes one that does"
+           if cut.report["prepared"] else f"{name} as it is, which joins with its other {given.kind} cuts")
+    if out.lower().endswith(".woff2") and not cut.report["prepared"]:
+        how = f"{name} as it is"
+    return f"{out}: {length:,} bytes, a {given.kind} cut of {how}"
+
+
+def _report(given: argparse.Namespace, length: int, cut: Cut, lacking: List[int], notices: List[str],
+            sheet: Dict[str, object]) -> None:
+    """Prints what was written, and says what is to be known of it."""
+    *_, source, out = given.files
+    if given.json:
+        print_line(json.dumps({"file": out, "bytes": length, "characters": len(cut.codes),
+                               "unicode_range": range_words(cut.codes), "lacking": range_words(lacking),
+                               "notices": notices, **cut.report, **sheet}, indent=2))
+    elif not given.quiet:
+        print_line(_said(given, source, out, length, cut))
+        for line in [*cut.warnings, *notices]:
+            print(f"fontcut-web: {line}", file=sys.stderr)
 
 
 def run(given: argparse.Namespace) -> None:
     """Writes a cut for the text of pages."""
     _check_words(given)
-    given.kind = given.kind or ("layout" if given.shaped else "lean")
     *paths, source, out = given.files
     _needed(given)
     read = read_pages(paths, ": pages come first")
@@ -126,24 +205,17 @@ def run(given: argparse.Namespace) -> None:
         check_font(source, font, out)
         if given.css:
             check_written([_sheet_beside(out)])
+    given.named = given.kind
+    given.kind = given.kind or part("axes").kind_for(font.data, zip(read, paths))
     more = styles.features_of(given.features or [])
     shown = [shown_by(page, path, more, given.text) for page, path in zip(read, paths)]
     lacking = _lacking(given, source, font, shown)
-    try:
-        cut = _exact(given, font, source, shown) if given.shaped else _closed(given, font, shown)
-    except fontcut.Refused as refusal:
-        raise Refused(f"{source}: {refusal}") from refusal
+    cut = _made(given, font, source, shown)
     with refusing(source):
         data = part("woff").packed(cut.data) if out.lower().endswith(".woff2") else cut.data
     if given.check:
         drawn = part("drawn")
         drawn.check([drawn.Drawn(path, font.data, data) for path in paths])
     write(out, data)
-    notices = _dropped(given, source, font, cut, shown)
-    told = {**cut.report, **(_write_sheet(given, font, source, cut.codes) if given.css else {})}
-    if given.json:
-        print_line(json.dumps({"file": out, "bytes": len(data), "characters": len(cut.codes),
-                               "unicode_range": range_words(cut.codes), "lacking": range_words(lacking),
-                               "notices": notices, **told}, indent=2))
-    for line in [] if given.json or given.quiet else [*cut.warnings, *notices]:
-        print(f"fontcut-web: {line}", file=sys.stderr)
+    sheet = _write_sheet(given, font, source, cut.codes) if given.css else {}
+    _report(given, len(data), cut, lacking, _dropped(given, source, font, cut, shown), sheet)

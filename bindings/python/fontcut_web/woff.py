@@ -5,9 +5,10 @@ import contextlib
 import io
 import struct
 import zlib
-from typing import Iterable, Iterator, Optional
+from typing import Iterable, Iterator, List, Mapping, Optional, Tuple
 
 from fontTools.ttLib import TTFont, woff2
+from fontTools.ttLib.sfnt import calcChecksum
 
 from .common import WOFF, WOFF2, Refused, need
 from .malformed import MALFORMED
@@ -64,6 +65,31 @@ def without(data: bytes, tags: Iterable[str]) -> bytes:
         made = io.BytesIO()
         font.save(made, reorderTables=None)
         return made.getvalue()
+
+
+def with_tables(data: bytes, tables: Mapping[str, Optional[bytes]]) -> bytes:
+    """A font that is accepted with other tables of some tags, and without those of `None` (OpenType 1.9, Organization
+    of an OpenType Font). fontTools would add up all of a large font again."""
+    other = {tag.encode("ascii"): table for tag, table in tables.items()}
+    rows: List[Tuple[bytes, int, bytes]] = []
+    for at in range(12, 12 + 16 * struct.unpack_from(">H", data, 4)[0], 16):
+        tag, checksum, offset, length = struct.unpack_from(">4s3L", data, at)
+        if tag not in other:
+            rows.append((tag, checksum, data[offset:offset + length]))
+    rows += [(tag, calcChecksum(table), table) for tag, table in other.items() if table is not None]
+    return _font_of(data[:4], sorted(rows))
+
+
+def _font_of(version: bytes, rows: List[Tuple[bytes, int, bytes]]) -> bytes:
+    """A font of tables with their tags and checksums."""
+    most = 1 << len(rows).bit_length() - 1
+    records, parts, end = [], [], 12 + 16 * len(rows)
+    for tag, checksum, table in rows:
+        records.append(struct.pack(">4s3L", tag, checksum, end, len(table)))
+        parts += [table, bytes(-len(table) % 4)]
+        end += len(table) + len(parts[-1])
+    head = struct.pack(">4s4H", version, len(rows), 16 * most, most.bit_length() - 1, 16 * (len(rows) - most))
+    return b"".join([head, *records, *parts])
 
 
 def _unpacked(data: bytes) -> bytes:

@@ -1,5 +1,7 @@
 //! The calls of `fontcut.h`, as the header declares them.
 use crate::numbers::{Info, Metric};
+use crate::{Kind, Ranges};
+use std::marker::PhantomData;
 
 #[repr(C)]
 #[derive(Clone, Copy, Debug, PartialEq, Eq)]
@@ -13,6 +15,41 @@ pub(crate) struct Range {
 pub(crate) struct Bytes {
     pub(crate) at: *const u8,
     pub(crate) length: usize,
+}
+
+/// What is wanted of a font, as C takes it. It points to the lists that it is made of.
+#[repr(C)]
+pub(crate) struct Request<'l> {
+    struct_size: usize,
+    kind: u32,
+    flags: u32,
+    ranges: *const Range,
+    range_count: usize,
+    glyphs: *const u16,
+    glyph_count: usize,
+    lists: PhantomData<&'l [u16]>,
+}
+
+/// Layout and variable cuts also have what `GSUB` may put.
+pub(crate) const CLOSES: u32 = 1;
+/// The font was accepted before.
+pub(crate) const CHECKED: u32 = 2;
+
+impl<'l> Request<'l> {
+    /// The request for the cut of an accepted font.
+    pub(crate) fn new(kind: Kind, flags: u32, codes: &'l Ranges, glyphs: &'l [u16]) -> Request<'l> {
+        let ranges = codes.as_slice();
+        Request {
+            struct_size: std::mem::size_of::<Request>(),
+            kind: kind as u32,
+            flags: flags | CHECKED,
+            ranges: ranges.as_ptr(),
+            range_count: ranges.len(),
+            glyphs: glyphs.as_ptr(),
+            glyph_count: glyphs.len(),
+            lists: PhantomData,
+        }
+    }
 }
 
 #[repr(C)]
@@ -32,83 +69,31 @@ pub(crate) const NOTHING_TO_JOIN: u32 = 24;
 pub(crate) const SMALL_ROOM: u32 = 100;
 pub(crate) const NO_GLYPH: u32 = 102;
 pub(crate) const NO_NUMBERS: u32 = 104;
+pub(crate) const BAD_TEXT: u32 = 106;
 
 extern "C" {
     pub(crate) fn fontcut_check(font: *const u8, font_length: usize) -> Answer;
-    pub(crate) fn fontcut_subset_size_checked(
-        kind: u32,
+    pub(crate) fn fontcut_subset(
+        request: *const Request<'_>,
         font: *const u8,
         font_length: usize,
-        ranges: *const Range,
-        range_count: usize,
-    ) -> Answer;
-    pub(crate) fn fontcut_subset_checked(
-        kind: u32,
-        font: *const u8,
-        font_length: usize,
-        ranges: *const Range,
-        range_count: usize,
         out: *mut u8,
         room: usize,
     ) -> Answer;
-    pub(crate) fn fontcut_cuts(
-        kind: u32,
+    pub(crate) fn fontcut_subsets(
+        requests: *const Request<'_>,
+        request_count: usize,
         font: *const u8,
         font_length: usize,
-        ranges: *const Range,
-        range_count: usize,
-        counts: *const u64,
-        set_count: usize,
-        out: *mut u8,
-        room: usize,
-        sizes: *mut u64,
-        sizes_length: usize,
-    ) -> Answer;
-    pub(crate) fn fontcut_subset_glyphs_size_checked(
-        kind: u32,
-        font: *const u8,
-        font_length: usize,
-        ranges: *const Range,
-        range_count: usize,
-        glyphs: *const u16,
-        glyph_count: usize,
-    ) -> Answer;
-    pub(crate) fn fontcut_subset_glyphs_checked(
-        kind: u32,
-        font: *const u8,
-        font_length: usize,
-        ranges: *const Range,
-        range_count: usize,
-        glyphs: *const u16,
-        glyph_count: usize,
-        out: *mut u8,
-        room: usize,
-    ) -> Answer;
-    pub(crate) fn fontcut_cuts_glyphs(
-        kind: u32,
-        font: *const u8,
-        font_length: usize,
-        ranges: *const Range,
-        range_count: usize,
-        counts: *const u64,
-        set_count: usize,
-        glyphs: *const u16,
-        glyph_count: usize,
-        glyph_counts: *const u64,
-        glyph_counts_length: usize,
         out: *mut u8,
         room: usize,
         sizes: *mut u64,
         sizes_length: usize,
     ) -> Answer;
     pub(crate) fn fontcut_closure(
-        kind: u32,
+        request: *const Request<'_>,
         font: *const u8,
         font_length: usize,
-        ranges: *const Range,
-        range_count: usize,
-        glyphs: *const u16,
-        glyph_count: usize,
         out: *mut u16,
         room: usize,
     ) -> Answer;
@@ -140,7 +125,8 @@ extern "C" {
         out: *mut Range,
         room: usize,
     ) -> Answer;
-    pub(crate) fn fontcut_glyphs_checked(
+    pub(crate) fn fontcut_glyphs(
+        flags: u32,
         font: *const u8,
         font_length: usize,
         codes: *const u32,
@@ -148,7 +134,8 @@ extern "C" {
         out: *mut u16,
         room: usize,
     ) -> Answer;
-    pub(crate) fn fontcut_metrics_checked(
+    pub(crate) fn fontcut_metrics(
+        flags: u32,
         font: *const u8,
         font_length: usize,
         glyphs: *const u16,
@@ -157,6 +144,18 @@ extern "C" {
         room: usize,
     ) -> Answer;
     pub(crate) fn fontcut_info(font: *const u8, font_length: usize, info: *mut Info) -> Answer;
+    pub(crate) fn fontcut_needed(
+        text: *const u8,
+        text_length: usize,
+        out: *mut Range,
+        room: usize,
+    ) -> Answer;
+    pub(crate) fn fontcut_ranges(
+        list: *const u8,
+        list_length: usize,
+        out: *mut Range,
+        room: usize,
+    ) -> Answer;
     pub(crate) fn fontcut_version() -> u32;
     pub(crate) fn fontcut_refusal_text(answer: Answer, out: *mut u8, room: usize) -> Answer;
 }

@@ -1,7 +1,8 @@
 //! Refusals.
 use crate::calls::{
-    fontcut_refusal_text, Answer, DONE, NOTHING_TO_JOIN, NO_GLYPH, NO_MEMORY, NO_NUMBERS,
+    fontcut_refusal_text, Answer, BAD_TEXT, DONE, NOTHING_TO_JOIN, NO_GLYPH, NO_MEMORY, NO_NUMBERS,
 };
+use crate::Wanted;
 use std::fmt;
 
 /// What a refusal is about.
@@ -36,7 +37,7 @@ pub struct Error {
 
 impl Error {
     /// The number of the refusal, as `fontcut` prints it and docs/FORMAT.md lists it; or 102 or 104, if glyphs are
-    /// wanted that the font or the kind of cuts does not have.
+    /// wanted that the font or the kind of cuts does not have; or 106, if a word of a list names no range.
     #[must_use]
     pub fn number(&self) -> u32 {
         self.number
@@ -69,21 +70,44 @@ impl Error {
         }
     }
 
-    /// The error of a call that was given these glyphs.
-    pub(crate) fn of_glyphs(answer: Answer, glyphs: &[u16]) -> Error {
-        let (text, argument) = match answer.status {
-            NO_GLYPH => {
-                let glyph = glyphs[answer.detail as usize];
-                let argument = Argument::Number(u32::from(glyph));
-                (format!("no glyph {glyph}"), argument)
+    /// The error of a call for these sets of wanted characters and glyphs.
+    pub(crate) fn of_glyphs<'s>(
+        answer: Answer,
+        sets: impl IntoIterator<Item = &'s Wanted>,
+    ) -> Error {
+        let set = usize::try_from(answer.step)
+            .ok()
+            .and_then(|step| sets.into_iter().nth(step));
+        let glyph = set.and_then(|set| set.glyphs.get(answer.detail as usize));
+        match (answer.status, glyph) {
+            (NO_GLYPH, Some(&glyph)) => {
+                Error::of_call(answer, format!("no glyph {glyph}"), u32::from(glyph).into())
             }
-            NO_NUMBERS => ("no glyphs by number in full cuts".into(), Argument::File),
-            _ => return Error::of_one_file(answer),
-        };
+            (NO_NUMBERS, _) => {
+                Error::of_call(answer, "no glyphs by number in full cuts".into(), None)
+            }
+            _ => Error::of_one_file(answer),
+        }
+    }
+
+    /// The error of a call that reads a list.
+    pub(crate) fn of_list(answer: Answer, list: &str) -> Error {
+        let rest = list.get(answer.detail as usize..).unwrap_or_default();
+        let word = rest.split([' ', '\t', '\r', '\n', ',', ';', '#']).next();
+        match (answer.status, word) {
+            (BAD_TEXT, Some(word)) => {
+                Error::of_call(answer, format!("bad word {word}"), Some(answer.detail))
+            }
+            _ => Error::of_one_file(answer),
+        }
+    }
+
+    /// The error of a call whose answer is no refusal, about a number.
+    fn of_call(answer: Answer, text: String, number: Option<u32>) -> Error {
         Error {
             number: answer.status,
             text,
-            argument,
+            argument: number.map_or(Argument::File, Argument::Number),
             file: None,
         }
     }

@@ -1,6 +1,6 @@
 //! Cuts for characters and for glyphs by their numbers.
-use crate::calls::{self, filled, DONE};
-use crate::{end_to_end, split, Cut, Error, Font, Kind, Ranges};
+use crate::calls::{self, filled, Request};
+use crate::{Cut, Error, Font, Kind, Ranges};
 
 /// How many glyphs a font has at most.
 const MOST_GLYPHS: usize = u16::MAX as usize;
@@ -61,26 +61,8 @@ impl Font<'_> {
     /// # }
     /// ```
     pub fn exact_cut(&self, kind: Kind, wanted: &Wanted) -> Result<Cut, Error> {
-        let (font, ranges, glyphs) = (self.bytes, wanted.codes.as_slice(), &wanted.glyphs);
-        let room = font.len().saturating_add(4096);
-        // SAFETY: as in `cut`; the numbers are those of a vector.
-        let made = unsafe {
-            filled(room, |out, room| {
-                calls::fontcut_subset_glyphs_checked(
-                    kind as u32,
-                    font.as_ptr(),
-                    font.len(),
-                    ranges.as_ptr(),
-                    ranges.len(),
-                    glyphs.as_ptr(),
-                    glyphs.len(),
-                    out,
-                    room,
-                )
-            })
-        };
-        made.map(|bytes| Cut::new(kind, bytes))
-            .map_err(|answer| Error::of_glyphs(answer, glyphs))
+        self.cut_by(kind, &Request::new(kind, 0, &wanted.codes, &wanted.glyphs))
+            .map_err(|answer| Error::of_glyphs(answer, [wanted]))
     }
 
     /// How many bytes the cut of [`Font::exact_cut`] has. No cut is made.
@@ -89,24 +71,8 @@ impl Font<'_> {
     ///
     /// Those of [`Font::exact_cut`].
     pub fn exact_cut_size(&self, kind: Kind, wanted: &Wanted) -> Result<u64, Error> {
-        let (font, ranges, glyphs) = (self.bytes, wanted.codes.as_slice(), &wanted.glyphs);
-        // SAFETY: `new` has accepted these bytes; the places and lengths are those of slices, which the call reads.
-        let answer = unsafe {
-            calls::fontcut_subset_glyphs_size_checked(
-                kind as u32,
-                font.as_ptr(),
-                font.len(),
-                ranges.as_ptr(),
-                ranges.len(),
-                glyphs.as_ptr(),
-                glyphs.len(),
-            )
-        };
-        if answer.status == DONE {
-            Ok(answer.size)
-        } else {
-            Err(Error::of_glyphs(answer, glyphs))
-        }
+        self.size_by(&Request::new(kind, 0, &wanted.codes, &wanted.glyphs))
+            .map_err(|answer| Error::of_glyphs(answer, [wanted]))
     }
 
     /// The cuts of a kind for many sets of what is wanted: what [`Font::exact_cut`] makes for each, in their order. The
@@ -120,34 +86,12 @@ impl Font<'_> {
         I: IntoIterator<Item = &'s Wanted>,
     {
         let sets: Vec<&Wanted> = sets.into_iter().collect();
-        let (ranges, counts) = end_to_end(sets.iter().map(|set| set.codes.as_slice()));
-        let (glyphs, glyph_counts) = end_to_end(sets.iter().map(|set| set.glyphs.as_slice()));
-        let (font, mut sizes) = (self.bytes, vec![0; counts.len()]);
-        let (places, place_count) = (sizes.as_mut_ptr(), sizes.len());
-        // SAFETY: as in `cuts`; the numbers and their counts are those of vectors.
-        let made = unsafe {
-            filled(0, |out, room| {
-                calls::fontcut_cuts_glyphs(
-                    kind as u32,
-                    font.as_ptr(),
-                    font.len(),
-                    ranges.as_ptr(),
-                    ranges.len(),
-                    counts.as_ptr(),
-                    counts.len(),
-                    glyphs.as_ptr(),
-                    glyphs.len(),
-                    glyph_counts.as_ptr(),
-                    glyph_counts.len(),
-                    out,
-                    room,
-                    places,
-                    place_count,
-                )
-            })
-        };
-        made.map(|made| split(kind, sizes, &made))
-            .map_err(|answer| Error::of_glyphs(answer, &glyphs))
+        let requests: Vec<_> = sets
+            .iter()
+            .map(|set| Request::new(kind, 0, &set.codes, &set.glyphs))
+            .collect();
+        self.cuts_by(kind, &requests)
+            .map_err(|answer| Error::of_glyphs(answer, sets))
     }
 
     /// The glyphs that a shaper may put for text of the wanted characters and glyphs, ascending: `.notdef`, the glyphs
@@ -156,7 +100,7 @@ impl Font<'_> {
     ///
     /// # Errors
     ///
-    /// 102 if the font has no glyph of a number, and 16 if out of memory. Of [`Kind::Layout`] also 5, 6 and
+    /// 104 if glyphs are given for [`Kind::Full`], 102 if the font has no glyph of a number, and 16 if out of memory. Of [`Kind::Layout`] also 5, 6 and
     /// 27, and of [`Kind::Variable`] 5, 6, 27 and 28.
     ///
     /// ```
@@ -174,25 +118,15 @@ impl Font<'_> {
     /// # }
     /// ```
     pub fn closure(&self, kind: Kind, wanted: &Wanted) -> Result<Vec<u16>, Error> {
-        let (font, ranges, glyphs) = (self.bytes, wanted.codes.as_slice(), &wanted.glyphs);
-        // SAFETY: the places and lengths are those of slices; the call writes to its room alone, which is a vector's
-        // own, and to the front of it as many glyphs as it says.
+        let request = Request::new(kind, 0, &wanted.codes, &wanted.glyphs);
+        let font = self.bytes;
+        // SAFETY: as in `cut_by`; the room is in glyphs.
         let closed = unsafe {
             filled(MOST_GLYPHS, |out, room| {
-                calls::fontcut_closure(
-                    kind as u32,
-                    font.as_ptr(),
-                    font.len(),
-                    ranges.as_ptr(),
-                    ranges.len(),
-                    glyphs.as_ptr(),
-                    glyphs.len(),
-                    out,
-                    room,
-                )
+                calls::fontcut_closure(&request, font.as_ptr(), font.len(), out, room)
             })
         };
-        closed.map_err(|answer| Error::of_glyphs(answer, glyphs))
+        closed.map_err(|answer| Error::of_glyphs(answer, [wanted]))
     }
 
     /// The glyphs that the font keeps as a cut of a kind, ascending: `.notdef`, the glyphs of its characters, in all

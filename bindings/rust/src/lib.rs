@@ -28,7 +28,6 @@ mod cut;
 mod error;
 mod exact;
 mod needed;
-mod needed_tables;
 mod numbers;
 mod ranges;
 
@@ -39,7 +38,7 @@ pub use needed::needed;
 pub use numbers::{Info, Metric, NoGlyph};
 pub use ranges::Ranges;
 
-use calls::{filled, length, Answer, Bytes, DONE, NO_GLYPH};
+use calls::{filled, length, Answer, Bytes, Request, CHECKED, CLOSES, DONE, NO_GLYPH, SMALL_ROOM};
 
 /// A kind of cuts. Cuts join with cuts of their own kind.
 #[derive(Clone, Copy, Debug, PartialEq, Eq, Hash)]
@@ -104,28 +103,64 @@ impl<'a> Font<'a> {
     /// 16 if out of memory, and 18 if the cut would be too large for a file. Of [`Kind::Layout`] also 5, 6
     /// and 27, and of [`Kind::Variable`] 5, 6, 27 and 28.
     pub fn cut(&self, kind: Kind, wanted: &Ranges) -> Result<Cut, Error> {
-        let (font, ranges) = (self.bytes, wanted.as_slice());
+        self.cut_by(kind, &Request::new(kind, CLOSES, wanted, &[]))
+            .map_err(Error::of_one_file)
+    }
+
+    /// The cut for a request of a kind.
+    fn cut_by(&self, kind: Kind, request: &Request<'_>) -> Result<Cut, Answer> {
+        let font = self.bytes;
         // A cut is seldom longer than its font; if it is, the call says how long.
         let room = font.len().saturating_add(4096);
-        // SAFETY: `new` has accepted these bytes, which nobody changes while they are borrowed. The places and lengths
-        // are those of slices; the call writes to its room alone, which is a vector's own, and to the front of it as
-        // many bytes as it says.
+        // SAFETY: `new` has accepted these bytes, which nobody changes while they are borrowed. The request points to
+        // slices that live as long as it; the call writes to its room alone, which is a vector's own, and to the front
+        // of it as many bytes as it says.
         let made = unsafe {
             filled(room, |out, room| {
-                let (first, count) = (ranges.as_ptr(), ranges.len());
-                calls::fontcut_subset_checked(
-                    kind as u32,
-                    font.as_ptr(),
-                    font.len(),
-                    first,
-                    count,
-                    out,
-                    room,
-                )
+                calls::fontcut_subset(request, font.as_ptr(), font.len(), out, room)
             })
         };
         made.map(|bytes| Cut::new(kind, bytes))
-            .map_err(Error::of_one_file)
+    }
+
+    /// How many bytes that cut has.
+    fn size_by(&self, request: &Request<'_>) -> Result<u64, Answer> {
+        // SAFETY: as in `cut_by`; there is no room that could be written to.
+        let answer = unsafe {
+            let (font, none) = (self.bytes, std::ptr::null_mut());
+            calls::fontcut_subset(request, font.as_ptr(), font.len(), none, 0)
+        };
+        match answer.status {
+            SMALL_ROOM => Ok(answer.size),
+            _ => Err(answer),
+        }
+    }
+
+    /// The cuts for requests of a kind.
+    fn cuts_by(&self, kind: Kind, requests: &[Request<'_>]) -> Result<Vec<Cut>, Answer> {
+        if requests.is_empty() {
+            return Ok(Vec::new());
+        }
+        let (font, mut sizes) = (self.bytes, vec![0; requests.len()]);
+        let (places, place_count) = (sizes.as_mut_ptr(), sizes.len());
+        // How long the cuts are cannot be guessed, for each repeats the tables that it copies: the first call has no
+        // room and says it.
+        // SAFETY: as in `cut_by`; the call also writes to `sizes`, which has a place for each request.
+        let made = unsafe {
+            filled(0, |out, room| {
+                calls::fontcut_subsets(
+                    requests.as_ptr(),
+                    requests.len(),
+                    font.as_ptr(),
+                    font.len(),
+                    out,
+                    room,
+                    places,
+                    place_count,
+                )
+            })
+        };
+        made.map(|made| split(kind, sizes, &made))
     }
 
     /// The cuts of a kind for many sets of wanted characters: what [`Font::cut`] makes for each set, in the order of
@@ -152,32 +187,9 @@ impl<'a> Font<'a> {
     where
         I: IntoIterator<Item = &'s Ranges>,
     {
-        let (ranges, counts) = end_to_end(sets.into_iter().map(Ranges::as_slice));
-        let (font, mut sizes) = (self.bytes, vec![0; counts.len()]);
-        let (places, place_count) = (sizes.as_mut_ptr(), sizes.len());
-        // How long the cuts are cannot be guessed, for each repeats the tables that it copies: the first call has no
-        // room and says it.
-        // SAFETY: the places and lengths are those of slices; the call writes to its room and to `sizes` alone, which
-        // are vectors' own, and to the front of its room as many bytes as it says.
-        let made = unsafe {
-            filled(0, |out, room| {
-                calls::fontcut_cuts(
-                    kind as u32,
-                    font.as_ptr(),
-                    font.len(),
-                    ranges.as_ptr(),
-                    ranges.len(),
-                    counts.as_ptr(),
-                    counts.len(),
-                    out,
-                    room,
-                    places,
-                    place_count,
-                )
-            })
-        };
-        made.map(|made| split(kind, sizes, &made))
-            .map_err(Error::of_one_file)
+        let wanted = |codes| Request::new(kind, CLOSES, codes, &[]);
+        let requests: Vec<_> = sets.into_iter().map(wanted).collect();
+        self.cuts_by(kind, &requests).map_err(Error::of_one_file)
     }
 
     /// How many bytes the cut of a kind for the wanted characters has. No cut is made.
@@ -186,19 +198,8 @@ impl<'a> Font<'a> {
     ///
     /// Those of [`Font::cut`].
     pub fn cut_size(&self, kind: Kind, wanted: &Ranges) -> Result<u64, Error> {
-        let ranges = wanted.as_slice();
-        // SAFETY: the places and lengths are those of slices, which the call reads.
-        let answer = unsafe {
-            let (first, count) = (ranges.as_ptr(), ranges.len());
-            calls::fontcut_subset_size_checked(
-                kind as u32,
-                self.bytes.as_ptr(),
-                self.bytes.len(),
-                first,
-                count,
-            )
-        };
-        done(answer).map(|answer| answer.size)
+        self.size_by(&Request::new(kind, CLOSES, wanted, &[]))
+            .map_err(Error::of_one_file)
     }
 
     /// The characters that the font maps.
@@ -258,16 +259,6 @@ impl<'a> Font<'a> {
         }
     }
 
-    /// The older name of [`Font::belongs_to`].
-    ///
-    /// # Errors
-    ///
-    /// Those of [`Font::belongs_to`].
-    #[deprecated(note = "call belongs_to")]
-    pub fn is_cut_of(&self, kind: Kind, font: &Font<'_>) -> Result<bool, Error> {
-        self.belongs_to(kind, font)
-    }
-
     /// The glyph to which the font maps each character or code point, in their order: 0 if it maps one to none.
     ///
     /// ```
@@ -294,7 +285,8 @@ impl<'a> Font<'a> {
         // `glyphs` alone.
         let answer = unsafe {
             let (first, count) = (codes.as_ptr(), codes.len());
-            calls::fontcut_glyphs_checked(
+            calls::fontcut_glyphs(
+                CHECKED,
                 self.bytes.as_ptr(),
                 self.bytes.len(),
                 first,
@@ -334,7 +326,8 @@ impl<'a> Font<'a> {
         // `metrics` alone, and a metric of C has two numbers of 16 bits, as ours has.
         let answer = unsafe {
             let (first, count) = (glyphs.as_ptr(), glyphs.len());
-            calls::fontcut_metrics_checked(
+            calls::fontcut_metrics(
+                CHECKED,
                 self.bytes.as_ptr(),
                 self.bytes.len(),
                 first,
@@ -417,16 +410,6 @@ where
     };
     made.map(|bytes| Cut::new(kind, bytes))
         .map_err(Error::of_several_files)
-}
-
-/// The items of lists, end to end, and how many each list has.
-fn end_to_end<'l, T: Copy + 'l>(lists: impl Iterator<Item = &'l [T]>) -> (Vec<T>, Vec<u64>) {
-    let (mut items, mut counts) = (Vec::new(), Vec::new());
-    for list in lists {
-        items.extend_from_slice(list);
-        counts.push(list.len() as u64);
-    }
-    (items, counts)
 }
 
 /// The cuts of these sizes, which lie end to end.

@@ -1,7 +1,9 @@
 //! Sets of code points.
-use crate::calls::Range;
+use crate::calls::{filled, fontcut_ranges, Range};
+use crate::Error;
 use std::fmt;
 use std::ops::RangeInclusive;
+use std::str::FromStr;
 
 const LAST_CODE: u32 = 0x10_FFFF;
 
@@ -105,6 +107,38 @@ impl FromIterator<char> for Ranges {
         codes.sort_unstable();
         codes.dedup();
         codes.into_iter().map(|code| code..=code).collect()
+    }
+}
+
+/// Of the words of a list, as the program reads them with its option `--codes-file`.
+///
+/// # Errors
+///
+/// 106 if a word names no range, with the index of its first byte, and 16 if out of memory.
+///
+/// ```
+/// use fontcut::{Argument, Ranges};
+///
+/// let latin: Ranges = "unicode-range: U+20-7E, u+00??;".parse()?;
+/// assert_eq!("U+0-FF", latin.to_string());
+/// let refused = "41, 4?1".parse::<Ranges>().unwrap_err();
+/// assert_eq!((refused.number(), refused.text()), (106, "bad word 4?1"));
+/// assert_eq!(refused.argument(), Argument::Number(4));
+/// # Ok::<(), fontcut::Error>(())
+/// ```
+impl FromStr for Ranges {
+    type Err = Error;
+
+    fn from_str(list: &str) -> Result<Ranges, Error> {
+        // SAFETY: the place and the length are those of a text; the call writes to its room alone, which is a vector's
+        // own, and to the front of it as many ranges as it says.
+        let read = unsafe {
+            filled(64, |out, room| {
+                fontcut_ranges(list.as_ptr(), list.len(), out, room)
+            })
+        };
+        read.map(Ranges::from_sorted)
+            .map_err(|answer| Error::of_list(answer, list))
     }
 }
 

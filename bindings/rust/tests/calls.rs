@@ -1,5 +1,5 @@
 //! The calls over DejaVu Sans, where it is there: cuts of all kinds, their forms, joins and refusals.
-use fontcut::{join, version, Argument, Error, Font, Form, Kind, NoGlyph, Ranges, Wanted};
+use fontcut::{join, needed, version, Argument, Error, Font, Form, Kind, NoGlyph, Ranges, Wanted};
 
 const DEJAVU: &str = "/usr/share/fonts/truetype/dejavu/DejaVuSans.ttf";
 
@@ -178,7 +178,7 @@ fn closures_and_everything() -> Result<(), Error> {
         assert_eq!(all, all.font().exact_cut(kind, &all.font().everything())?);
         assert_eq!(all.font().codes()?, font.codes()?);
     }
-    assert_eq!(font.closure(Kind::Full, &wanted("", &[9]))?, [0, 9]);
+    assert_eq!(font.closure(Kind::Full, &wanted("A", &[]))?, [0, 36]);
     let full = font.cut(Kind::Full, &letters("A"))?;
     assert_eq!(full.font().kept_glyphs(Kind::Full)?, [0, 36]);
     Ok(())
@@ -214,6 +214,7 @@ fn glyphs_that_are_refused() -> Result<(), Error> {
         font.exact_cut(Kind::Full, &good).unwrap_err(),
         font.exact_cut_size(Kind::Full, &bad).unwrap_err(),
         font.exact_cuts(Kind::Full, [&good]).unwrap_err(),
+        font.closure(Kind::Full, &good).unwrap_err(),
     ] {
         assert_eq!(
             (refused.number(), refused.text(), refused.file()),
@@ -273,6 +274,39 @@ fn the_version_is_that_of_the_crate() {
         format!("{first}.{second}.{third}"),
         env!("CARGO_PKG_VERSION")
     );
+}
+
+#[test]
+fn texts_and_lists() -> Result<(), Error> {
+    for (text, wanted) in [
+        ("", ""),
+        ("\n\u{85}", "U+A, U+20, U+85"),
+        ("e\n\u{301}", "U+A, U+20, U+65, U+301, U+25CC"),
+        ("(\u{5D0}", "U+20, U+28-29, U+5D0"),
+        ("\u{1F600}", "U+20, U+1F600"),
+    ] {
+        assert_eq!(needed(text)?.to_string(), wanted);
+    }
+    for (list, wanted) in [
+        ("", ""),
+        ("U+41-5A, 61;u+3B1 # U+1", "U+41-5A, U+61, U+3B1"),
+        ("all", "U+0-10FFFF"),
+        ("U+41 36 1401\n", "U+41"),
+    ] {
+        assert_eq!(list.parse::<Ranges>()?.to_string(), wanted);
+    }
+    for (list, place, text) in [
+        ("zz", 0, "bad word zz"),
+        ("41,\u{E9};42", 3, "bad word \u{E9}"),
+        ("unicode-range:42-41", 14, "bad word 42-41"),
+    ] {
+        let refused = list.parse::<Ranges>().unwrap_err();
+        assert_eq!(
+            (refused.number(), refused.text(), refused.argument()),
+            (106, text, Argument::Number(place))
+        );
+    }
+    Ok(())
 }
 
 #[test]

@@ -2,7 +2,9 @@ pub mod BelongsLemmas
 pub mod CheckLemmas
 pub mod CodesLemmas
 pub mod DropLemmas
+pub mod DroppedLemmas
 pub mod GlyphsLemmas
+pub mod HeldLemmas
 pub mod JoinRunLemmas
 pub mod LineLemmas
 pub mod ReadEachLemmas

@@ -156,6 +156,7 @@ module _ (r : Request) where
         sent = tt;
         unbroken = tt;
         flushed = tt;
+        holds = tt;
         size = tt;
         error = subst (CutStops contents r file o p) (sym is) stops;
       }

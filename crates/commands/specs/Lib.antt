@@ -2,6 +2,7 @@ pub mod Belongs
 pub mod Check
 pub mod Codes
 pub mod Drop
+pub mod Dropped
 pub mod Inside
 pub mod MappedGlyphs
 pub mod JoinRun

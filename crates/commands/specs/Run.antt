@@ -5,10 +5,11 @@ use Rattle.std.specs.Prelude.{OnOk, Result, Some, option_copied, take}
 use Rattle.std.specs.List.{find}
 use Rattle.codes.specs.Wanted.{member}
 use Rattle.font_subset.specs.CutOfFont.{IsTooLarge}
-use Rattle.font_subset.specs.CutOfKind.{cut_as, keeps_links}
+use Rattle.font_subset.specs.CutOfKind.{IsSoundIn, cut_as, keeps_links, wanted_with}
 use Rattle.font_subset.specs.KeptGlyphs.{glyphs_wanted}
 use Rattle.font_subset.specs.OpenedFont.{cutting_fault}
 use Rattle.font_file.specs.declared.font_error.FontError.{FontError}
+use Rattle.font_theory.specs.Content.{Wanted}
 use Rattle.font_theory.specs.declared.kinds.Kind.TheVariants.{Full}
 use Rattle.font_theory.specs.declared.kinds.Kind.{Kind}
 use Rattle.sfnt_bytes.specs.declared.directory.TheConstants.{MAX_FILE}
@@ -30,6 +31,7 @@ use Rattle.streams.specs.declared.inlet.Inlet.{Inlet}
 use Rattle.streams.specs.declared.inlet.ReadError.{ReadError}
 use Rattle.streams.specs.declared.inlet.ReadError.TheVariants.{NoMemory, ReadFault}
 use Rattle.streams.specs.declared.outlet.Outlet.{Outlet}
+use Rattle.commands.specs.Dropped.{DropsOthers}
 use Rattle.commands.specs.declared.cut_request.CutRequest.{CutRequest}
 use Rattle.commands.specs.declared.run_error.RunError.{RunError}
 use Rattle.commands.specs.declared.run_error.RunError.TheVariants.{Font, Join, Memory, NoGlyph, OneOf, Read, TooLarge}
@@ -115,6 +117,16 @@ cut_for r file =
 abbrev pub fault_for : Request → List ℕ → Option FontError
 fault_for r file = cutting_fault r.closes r.kind file
 
+-- what is wanted of a file, with all that links lead to where that is asked for
+abbrev pub wanted_of : Request → List ℕ → Wanted
+wanted_of r file =
+    wanted_with r.closes r.kind file (record { codes = r.codes; glyphs = glyphs_wanted r.numbers })
+
+-- what the cut that is asked for has of its file, and what it has not
+pub record HoldsOfFont (r : Request) (file : List ℕ) : Type 0 where
+  pub sound : IsSoundIn r.kind file (wanted_of r file) (cut_for r file)
+  pub dropped : DropsOthers r.kind file (wanted_of r file) (cut_for r file)
+
 -- the first of the numbers that is no glyph of a file
 abbrev pub stray_number : List ℕ → Option (List ℕ) → Option ℕ
 stray_number file None = None
@@ -189,6 +201,7 @@ pub record SendsCut {W : Type 0} (contents : W → Option (List ℕ)) (held : W 
   pub sent : OnOk result (outlets.WentOut contents o p (cut_for r file))
   pub unbroken : OnOk result (outlets.broken_of p ≡ false)
   pub flushed : OnOk result (outlets.IsFlushed held p)
+  pub holds : OnOk result (HoldsOfFont r file)
   pub size : IfOk result (λ size. size ≡ length (cut_for r file))
   pub error : IfErr result (CutStops contents r file o p)
 

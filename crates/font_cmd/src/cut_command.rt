@@ -133,6 +133,7 @@ fn said_of_cut<F: HeldFiles, I, O>(
         kind,
         wanted: wanted.all(),
         named: wanted.named(),
+        texts: wanted.texts(),
         has_numbers: names_glyphs(line),
         says_more: line.verbosity == Verbosity::Verbose,
     };

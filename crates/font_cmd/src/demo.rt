@@ -34,7 +34,7 @@ fn in_memory(error: RunError) -> RunError {
 
 // Returns the codes of some words. They name ranges, so only memory can be wanting.
 fn wanted_by(alloc: Global, words: &[&str]) -> Result<Wanted, RunError> {
-    let Ok(codes) = codes_of(alloc, &[], words) else {
+    let Ok(codes) = codes_of(alloc, words) else {
         return Err(RunError::Memory);
     };
     match codes.into_wanted(alloc) {

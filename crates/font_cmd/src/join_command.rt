@@ -5,7 +5,7 @@ ghost use Rattle.commands.specs.JoinRun.{AreFresh};
 use crate::messages::command_error::{CommandError, refused_join};
 use crate::outcome::Outcome;
 use crate::paths::inputs::inlets_at;
-use crate::paths::kept_font::{keep_forgotten, keep_from_join};
+use crate::paths::kept_font::{keep_forgotten, keep_from_join, locked_out};
 use crate::paths::output::{outlet, packed_out, placed};
 use command_line::Join;
 use commands::{RunError, run_join_of_kind};
@@ -57,7 +57,7 @@ fn send_join<'a, F: HeldFiles, I, O: Write + Copy + Drop, R: Read>(
 }
 
 /// Writes the join of files that are cuts of a kind. Whether OUT may be replaced is looked at after all files are
-/// open.
+/// open; where it is one of them, no other join in place of it runs meanwhile.
 ///
 /// # Errors
 /// The first error.
@@ -67,6 +67,8 @@ pub(crate) fn join<'a, F: HeldFiles, I: Read + Copy + Drop, O: Write + Copy + Dr
     line: &Join<'a>,
 ) -> Result<Outcome, CommandError<'a>> {
     packed_out(line.out, line.is_forced)?;
+    // It is locked until the join is at OUT.
+    let _locked = locked_out(system, line)?;
     let mut inlets = inlets_at(system, &line.files)?;
     keep_forgotten(system, line)?;
     keep_from_join(system, line)?;

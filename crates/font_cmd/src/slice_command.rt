@@ -191,11 +191,13 @@ fn lost_of(
         codes.add_all(alloc, &slice.codes)?;
     }
     let wanted = codes.into_wanted(alloc)?;
+    let no_text = Wanted::new(alloc);
     let asked = Asked {
         name: input_name(line.font),
         kind,
         wanted: &wanted,
         named: &wanted,
+        texts: &no_text,
         // Slices of which the font maps nothing are named one by one.
         has_numbers: true,
         says_more: false,

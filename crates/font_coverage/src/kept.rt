@@ -7,6 +7,8 @@ use wanted_characters::CodeSet;
 pub struct Kept {
     /// Those that the line wants.
     pub wanted: CodeSet,
+    /// Those of them that are characters of texts.
+    pub texts: CodeSet,
     /// Those that are kept besides where the font maps them, of which some may be wanted too.
     pub added: CodeSet,
 }
@@ -15,6 +17,7 @@ impl Drop for Kept {
     fn drop(self) {
         let Kept {
             wanted: _wanted,
+            texts: _texts,
             added: _added,
         } = self;
     }
@@ -26,10 +29,18 @@ impl Kept {
     /// # Errors
     /// `AllocError` if out of memory.
     pub fn into_wanted(self, alloc: Global) -> Result<WantedCodes, AllocError> {
-        let Kept { wanted, mut added } = self;
+        let Kept {
+            wanted,
+            texts,
+            mut added,
+        } = self;
+        let texts = texts.into_wanted(alloc)?;
         if added.is_empty() {
-            let all = wanted.into_wanted(alloc)?;
-            return Ok(WantedCodes { all, named: None });
+            return Ok(WantedCodes {
+                all: wanted.into_wanted(alloc)?,
+                named: None,
+                texts,
+            });
         }
         added.add_all(alloc, &wanted)?;
         let all = added.into_wanted(alloc)?;
@@ -37,6 +48,7 @@ impl Kept {
         Ok(WantedCodes {
             all,
             named: Some(named),
+            texts,
         })
     }
 }
@@ -46,6 +58,7 @@ pub struct WantedCodes {
     all: Wanted,
     // Those that the line wants, where others are kept besides.
     named: Option<Wanted>,
+    texts: Wanted,
 }
 
 // Written out, as that of `Kept`.
@@ -54,6 +67,7 @@ impl Drop for WantedCodes {
         let WantedCodes {
             all: _all,
             named: _named,
+            texts: _texts,
         } = self;
     }
 }
@@ -70,5 +84,10 @@ impl WantedCodes {
             Some(named) => named,
             None => &self.all,
         }
+    }
+
+    /// Returns those that are characters of texts.
+    pub fn texts(&self) -> &Wanted {
+        &self.texts
     }
 }

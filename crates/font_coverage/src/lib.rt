@@ -7,6 +7,7 @@ mod coverage_lines;
 mod cut_kinds;
 mod kept;
 mod lost;
+mod missing;
 mod sequences;
 
 pub use crate::changed_cuts::{FileForm, file_form, is_cmap_of_cut, may_be_cut};

@@ -1,4 +1,5 @@
-//! What is said of a cut without being asked: what the wanted characters need of a font and the cut drops.
+//! What is said of a cut without being asked: what the wanted characters need of a font, and it lacks or the cut drops.
+use crate::missing::add_missing;
 use crate::sequences::wanted_sequence;
 use codes::{CODES, Wanted};
 use font_file::Font;
@@ -31,6 +32,8 @@ pub struct Asked<'a> {
     pub wanted: &'a Wanted,
     /// Those of them that are asked for, and not added to others.
     pub named: &'a Wanted,
+    /// Those of them that are characters of texts: each is missed where the font does not map it.
+    pub texts: &'a Wanted,
     /// Whether glyphs are wanted by their numbers, too.
     pub has_numbers: bool,
     /// Whether all scripts are named that the font shapes, also those whose text can be read where nothing shapes it.
@@ -236,8 +239,9 @@ pub(crate) fn add_never_kept(
     Ok(())
 }
 
-/// Returns a line for each thing that the wanted codes need of a font and a cut of a kind drops, or one that says that the
-/// font maps none of those that are asked for, or none but spaces.
+/// Returns a line for the characters of texts that a font does not map, and one for each thing that the wanted codes need
+/// of it and a cut of a kind drops; or one that says that the font maps none of those that are asked for, or none but
+/// spaces.
 ///
 /// # Errors
 /// `AllocError` if out of memory.
@@ -250,6 +254,7 @@ pub fn losses(alloc: Global, font: &Font<'_>, asked: Asked<'_>) -> Result<String
             return Ok(text);
         }
     }
+    add_missing(alloc, &mut text, font, asked.name, asked.texts)?;
     add_scripts(alloc, &mut text, font, asked)?;
     add_axes(alloc, &mut text, font, asked)?;
     add_sequence(&mut text, font, asked)?;

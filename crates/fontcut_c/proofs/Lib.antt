@@ -1,3 +1,4 @@
+mod ClosureLemmas
 mod CutLemmas
 mod CutListLemmas
 mod ErrorLemmas
@@ -5,8 +6,10 @@ mod FileListLemmas
 mod FilledLemmas
 mod InfoLemmas
 mod JoiningLemmas
+mod ListedLemmas
 mod MappedLemmas
 mod PairLemmas
 mod RangeLemmas
+mod RequestLemmas
 mod RowLemmas
 mod StepLemmas

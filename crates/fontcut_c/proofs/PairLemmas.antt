@@ -6,7 +6,7 @@ use Rattle.font_subset.specs.CutOfKind.{IsCutIn}
 use Rattle.fontcut_c.specs.Forms.{IsBelonging, RefusesPair}
 use Rattle.fontcut_c.specs.Inside.{RefusesFonts}
 use Rattle.fontcut_c.specs.declared.refusal.Refusal.{Refusal}
-use Rattle.fontcut_c.specs.declared.refusal.Refusal.TheVariants.{BadCounts, BadRange, Font, Join, NoGlyph, NoMemory}
+use Rattle.fontcut_c.specs.declared.refusal.Refusal.TheVariants.{BadRange, BadText, Font, Join, NoGlyph, NoMemory}
 use Rattle.fontcut_c.specs.declared.refusal.Refusal.TheVariants.{Second, SmallRoom, TooLarge}
 use Rattle.fontcut_c.proofs.CutLemmas.{refused_accepted, refused_for}
 
@@ -18,7 +18,7 @@ pair_refused kind cut font (Second error) h = (h.0, refused_for kind font error 
 pair_refused kind cut font NoMemory h = absurd h
 pair_refused kind cut font (Join error) h = absurd h
 pair_refused kind cut font (BadRange k) h = absurd h
-pair_refused kind cut font BadCounts h = absurd h
+pair_refused kind cut font (BadText index) h = absurd h
 pair_refused kind cut font (NoGlyph index) h = absurd h
 pair_refused kind cut font (TooLarge size) h = absurd h
 pair_refused kind cut font (SmallRoom size) h = absurd h

@@ -6,7 +6,7 @@ use Rattle.std.specs.List.Sorted.{IsPermutation}
 use Rattle.std.proofs.lemmas.List.Sorted.{list_any-IsPermutation}
 use Rattle.codes.specs.Wanted.{codes_between, either, no_codes}
 use Rattle.codes.specs.declared.code_range.CodeRange.{CodeRange}
-use Rattle.fontcut_c.specs.Cutting.{wanted_by, with_ranges}
+use Rattle.fontcut_c.specs.Requests.{wanted_by, with_ranges}
 
 or_turned : (a r b : Bool) → (a || (r || b)) ≡ ((r || a) || b)
 or_turned true true b = refl

@@ -20,7 +20,7 @@ use Rattle.font_join.specs.declared.join_error.JoinError.{JoinError}
 use Rattle.font_join.specs.declared.join_error.JoinError.TheVariants as joins
 use Rattle.fontcut_c.specs.declared.answer.Answer.{Answer}
 use Rattle.fontcut_c.specs.declared.refusal.Refusal.{Refusal}
-use Rattle.fontcut_c.specs.declared.refusal.Refusal.TheVariants.{BadCounts, BadRange, Font, Join, NoGlyph, NoMemory}
+use Rattle.fontcut_c.specs.declared.refusal.Refusal.TheVariants.{BadRange, BadText, Font, Join, NoGlyph, NoMemory}
 use Rattle.fontcut_c.specs.declared.refusal.Refusal.TheVariants.{Second, SmallRoom, TooLarge}
 
 -- a call is done, and wrote this number of bytes, or ranges
@@ -42,6 +42,14 @@ unknown_kind number = refused 101 number
 -- glyphs were asked for by number of full cuts, which are by characters alone
 abbrev pub no_numbers : Answer
 no_numbers = refused 104 0
+
+-- requests are not alike, or not as many as there are places
+abbrev pub bad_requests : Answer
+bad_requests = refused 103 0
+
+-- a request, or a sum of flags, is not of this version
+abbrev pub unknown_request : Answer
+unknown_request = refused 105 0
 
 -- a status that says a size
 abbrev pub sized : ℕ → ℕ → Answer
@@ -105,7 +113,7 @@ refusal_answer (Font error) = font_answer error
 refusal_answer (Second error) = at_step 1 (font_answer error)
 refusal_answer (Join error) = join_all_error_answer error
 refusal_answer (BadRange index) = refused numbers.BAD_RANGE (as_detail index)
-refusal_answer BadCounts = refused 103 0
+refusal_answer (BadText index) = refused 106 (as_detail index)
 refusal_answer (NoGlyph index) = refused 102 (as_detail index)
 refusal_answer NoMemory = refused numbers.NO_MEMORY 0
 refusal_answer (TooLarge size) = sized numbers.TOO_LARGE size
@@ -131,6 +139,11 @@ bool_number false = 0
 abbrev pub size_answer : Result ℕ Refusal → Answer
 size_answer (Ok size) = done size
 size_answer (Err refusal) = refusal_answer refusal
+
+-- the answer of a call for many requests, which writes this number of bytes, or is refused at one of them
+abbrev pub stepped_answer : Result ℕ (ℕ × Refusal) → Answer
+stepped_answer (Ok size) = done size
+stepped_answer (Err at) = at_step at.0 (refusal_answer at.1)
 
 -- the answer to what form a file has
 abbrev pub form_answer : Result CutForm Refusal → Answer

@@ -11,10 +11,10 @@ use Rattle.fontcut_c.specs.declared.refusal.Refusal.{Refusal}
 use Rattle.fontcut_c.specs.declared.refusal.Refusal.TheVariants.{Font, NoMemory, Second}
 
 -- why one font is not looked into for cuts of a kind: it is refused for them, or else memory is
-abbrev pub RefusesFont : Kind → List ℕ → Refusal → Type 0
-RefusesFont kind font (Font error) = fault_of kind font ≡ Some error
-RefusesFont kind font NoMemory = font_fault font ≡ None
-RefusesFont kind font _ = ⊥
+abbrev pub RefusesForm : Kind → List ℕ → Refusal → Type 0
+RefusesForm kind font (Font error) = fault_of kind font ≡ Some error
+RefusesForm kind font NoMemory = font_fault font ≡ None
+RefusesForm kind font _ = ⊥
 
 -- why two fonts are not compared for cuts of a kind: the cut is refused as a font, or the font is; the cut is
 -- refused for cuts of the kind, or the font is; or memory is
@@ -38,7 +38,7 @@ pub record AnswersForm (kind : Kind) (font : List ℕ) (answer : Answer) : Type 
   pub outcome : Result CutForm Refusal
   pub told : answer ≡ form_answer outcome
   pub holds : MatchResult outcome (λ form. (fault_of kind font ≡ None) × (form ≡ form_as kind font))
-      (RefusesFont kind font)
+      (RefusesForm kind font)
 
 -- what a call answers that asks whether a file is a cut of a font, of a kind
 pub record AnswersBelonging (kind : Kind) (cut font : List ℕ) (answer : Answer) : Type 0 where

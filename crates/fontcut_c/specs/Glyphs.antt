@@ -1,10 +1,11 @@
 -- What the calls for glyphs of codes and for metrics of glyphs answer, this project's own (OpenType 1.9,
 -- cmap and hmtx).
-use Rattle.std.specs.Prelude.{◌≡◌, ℕ, ◌<◌, ◌≤◌, ℤ, List, length, map, None, Some, Result, MatchResult, slice_index_or}
+use Rattle.std.specs.Prelude.{◌≡◌, ℕ, nat_eq, ◌||◌, Bool, false, true, ◌<◌, ◌≤◌, ℤ, List, length, map, None, Some}
+use Rattle.std.specs.Prelude.{Result, MatchResult, slice_index_or}
 use Rattle.font_tables.specs.Fields.{glyph_count_of}
 use Rattle.font_tables.specs.Metrics.{metric_of}
 use Rattle.font_file.specs.Font.{font_fault, map_of}
-use Rattle.fontcut_c.specs.Answers.{IsInRoom, size_answer}
+use Rattle.fontcut_c.specs.Answers.{IsInRoom, size_answer, unknown_request}
 use Rattle.fontcut_c.specs.declared.answer.Answer.{Answer}
 use Rattle.fontcut_c.specs.declared.glyph_metrics.Metric.{Metric}
 use Rattle.fontcut_c.specs.declared.refusal.Refusal.{Refusal}
@@ -83,3 +84,12 @@ pub record AnswersMetrics (font glyphs : List ℕ) (old new : List Metric) (answ
   pub told : answer ≡ size_answer outcome
   pub holds : MatchResult outcome (AreMetricsInRoom font glyphs old new)
       (λ refusal. (new ≡ old) × RefusesMetrics font glyphs (length old) refusal)
+
+-- a sum of flags is one that a look-up takes: none, or that of a font that was accepted before
+abbrev pub is_of_look_up : ℕ → Bool
+is_of_look_up flags = nat_eq flags 0 || nat_eq flags 2
+
+-- what a look-up answers that is given flags: what it says, or that it does not know them
+pub record AnswersLookUp (flags : ℕ) (answer : Answer) (says : Type 0) : Type 0 where
+  pub known : is_of_look_up flags ≡ true → says
+  pub unknown : is_of_look_up flags ≡ false → answer ≡ unknown_request

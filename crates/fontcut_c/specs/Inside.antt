@@ -1,29 +1,28 @@
 -- Words of private contracts and of proofs: no public clause names them.
-use Rattle.std.specs.Prelude.{◌≡◌, ℕ, ◌+◌, ◌<◌, ◌≤◌, Bool, List, [], ◌∷◌, ◌++◌, drop, length, map, sum, take, None}
+use Rattle.std.specs.Prelude.{◌≡◌, ℕ, ◌<◌, ◌≤◌, Bool, List, [], ◌∷◌, ◌++◌, drop, length, map, take, None}
 use Rattle.std.specs.Prelude.{IfSome, Option, Some, if◌then◌else◌}
 use Rattle.std.specs.Option.{option_map}
 use Rattle.std.specs.List.{concat}
 use Rattle.sfnt_bytes.specs.declared.directory.TheConstants.{MAX_FILE}
 use Rattle.font_tables.specs.Fields.{glyph_count_of}
+use Rattle.commands.specs.Run.{fault_for}
 use Rattle.font_file.specs.Font.{cmap_of, font_fault}
 use Rattle.font_theory.specs.Content.{Content}
 use Rattle.font_theory.specs.File.{current_writing, file}
 use Rattle.font_theory.specs.declared.kinds.Kind.{Kind}
 use Rattle.font_write.specs.Trace.{Trace}
 use Rattle.font_subset.specs.CutOfKind.{cut_as, cut_in}
-use Rattle.font_subset.specs.KeptGlyphs.{asked, glyphs_wanted, wanted_in}
+use Rattle.font_subset.specs.KeptGlyphs.{asked, wanted_in}
 use Rattle.font_subset.specs.declared.open_error.OpenError.{OpenError}
 use Rattle.font_subset.specs.declared.open_error.OpenError.TheVariants as open_errors
 use Rattle.fontcut_c.specs.Answers.{IsInRoom}
-use Rattle.fontcut_c.specs.ManyCuts.{AddUp, AreSmall, AreSmallTo, IsFirstLarge, Sets, of_all, requests_in, requests_of}
-use Rattle.fontcut_c.specs.ManyCuts.{size_of_all}
-use Rattle.fontcut_c.specs.Cutting.{IsAccepted, IsFirstBad, IsFirstUnknown, IsRefusedFor, Request, closes_for}
-use Rattle.fontcut_c.specs.Cutting.{fault_for}
-use Rattle.fontcut_c.specs.Cutting.{wanted_by}
+use Rattle.fontcut_c.specs.Cutting.{RefusesAsked}
+use Rattle.fontcut_c.specs.ManyCuts.{AreSmall, AreSmallTo, IsFirstLarge, RefusesOne, size_of_all}
+use Rattle.fontcut_c.specs.ManyCuts.{cuts_for}
+use Rattle.fontcut_c.specs.Requests.{Asked, asked_at, closes_for, request_of, wished}
 use Rattle.fontcut_c.specs.declared.wanted_set.WantedSet.{WantedSet}
-use Rattle.codes.specs.declared.code_range.CodeRange.{CodeRange}
 use Rattle.fontcut_c.specs.declared.refusal.Refusal.{Refusal}
-use Rattle.fontcut_c.specs.declared.refusal.Refusal.TheVariants.{BadCounts, BadRange, Font, NoGlyph, NoMemory, Second}
+use Rattle.fontcut_c.specs.declared.refusal.Refusal.TheVariants.{BadText, Font, NoMemory, Second}
 use Rattle.fontcut_c.specs.declared.refusal.Refusal.TheVariants.{SmallRoom, TooLarge}
 
 -- what was shown to room: what is filled, or, where it is stopped, all of it and the byte that found no room
@@ -41,19 +40,10 @@ filling name out at odd stopped =
       stopped = stopped;
     }
 
--- a number of bytes that a file may have
-abbrev pub IsFileLength : List ℕ → ℕ → Type 0
-IsFileLength bytes size = (size ≡ length bytes) × (size ≤ MAX_FILE)
-
 -- a file is in the room
 pub record IsFileInRoom (bytes old new : List ℕ) (size : ℕ) : Type 0 where
   pub small : size ≤ MAX_FILE
   pub written : IsInRoom bytes old new size
-
--- a file is too large
-abbrev pub RefusesFileSize : List ℕ → Refusal → Type 0
-RefusesFileSize bytes (TooLarge size) = (size ≡ length bytes) × (MAX_FILE < size)
-RefusesFileSize bytes _ = ⊥
 
 -- a file is no larger than it may be, and larger than the room
 abbrev pub IsLargerFile : List ℕ → ℕ → ℕ → Type 0
@@ -74,29 +64,41 @@ abbrev pub RefusesJoined : List ℕ → ℕ → Refusal → Type 0
 RefusesJoined bytes room (SmallRoom size) = IsLargerFile bytes room size
 RefusesJoined bytes room _ = ⊥
 
--- what refuses a request before memory is asked for: the font, the first bad range, and then the first number that is
--- no glyph
-abbrev pub RefusesRequest : List ℕ → Request → Refusal → Type 0
-RefusesRequest font r (Font error) = font_fault font ≡ Some error
-RefusesRequest font r (BadRange k) = (font_fault font ≡ None) × IsFirstBad r.ranges k
-RefusesRequest font r (NoGlyph k) = IsFirstUnknown font r k
-RefusesRequest font r _ = ⊥
+-- a font was opened, and is accepted
+abbrev pub IsOpened : List ℕ → List ℕ → Type 0
+IsOpened file font = (font ≡ file) × (font_fault file ≡ None)
 
--- what refuses a request for sets before memory is asked for: their counts, and then what refuses all that is wanted
-abbrev pub RefusesRequestForSets : List ℕ → Sets → ℕ → Refusal → Type 0
-RefusesRequestForSets font sets places BadCounts = ¬ AddUp sets places
-RefusesRequestForSets font sets places refusal = AddUp sets places × RefusesRequest font (of_all sets) refusal
+-- what refuses a request before memory is asked for: the font, and then what is asked of it
+abbrev pub RefusesRequest : List ℕ → Asked → Refusal → Type 0
+RefusesRequest font a (Font error) = font_fault font ≡ Some error
+RefusesRequest font a refusal = RefusesAsked font a refusal
 
--- why a font that is accepted for a request is not opened for the cut: it is refused, or memory is
-abbrev pub RefusesOpening : Kind → List ℕ → Request → Refusal → Type 0
-RefusesOpening kind font r (Font error) = IsRefusedFor kind font r error
-RefusesOpening kind font r NoMemory = IsAccepted font r
-RefusesOpening kind font r _ = ⊥
+-- what refuses requests before memory is asked for: the font, and then the first request that is refused
+abbrev pub RefusesAll : List ℕ → List Asked → ℕ → Refusal → Type 0
+RefusesAll font all step (Font error) = (step ≡ 0) × (font_fault font ≡ Some error)
+RefusesAll font all step refusal = RefusesOne font all step refusal
 
--- a font was opened for the cut that is wanted
-abbrev pub IsOpenedFor : Kind → List ℕ → Request → Kind × (List ℕ × Bool) → Type 0
-IsOpenedFor kind font r opened =
-    (opened ≡ (kind, (font, closes_for kind r))) × (fault_for kind font r ≡ None)
+-- why an accepted font is not opened for the cut that is asked for: it is refused, or memory is
+abbrev pub RefusesOpening : Kind → List ℕ → Asked → Refusal → Type 0
+RefusesOpening kind font a (Font error) = fault_for (request_of kind a) font ≡ Some error
+RefusesOpening kind font a NoMemory = font_fault font ≡ None
+RefusesOpening kind font a _ = ⊥
+
+-- a font was opened for the cut that is asked for
+abbrev pub IsOpenedFor : Kind → List ℕ → Asked → Kind × (List ℕ × Bool) → Type 0
+IsOpenedFor kind font a opened =
+    (opened ≡ (kind, (font, closes_for kind a))) × (fault_for (request_of kind a) font ≡ None)
+
+-- why the cuts of an opened font are not written
+abbrev pub RefusesCuts : Kind → List ℕ → List Asked → ℕ → Refusal → Type 0
+RefusesCuts kind font all room (Font error) = fault_for (request_of kind (asked_at all 0)) font ≡ Some error
+RefusesCuts kind font all room NoMemory = font_fault font ≡ None
+RefusesCuts kind font all room (TooLarge size) =
+    (fault_for (request_of kind (asked_at all 0)) font ≡ None) × IsFirstLarge (cuts_for kind font all) size
+RefusesCuts kind font all room (SmallRoom size) =
+    (fault_for (request_of kind (asked_at all 0)) font ≡ None) × AreSmall (cuts_for kind font all)
+    × (size ≡ size_of_all (cuts_for kind font all)) × (room < size)
+RefusesCuts kind font all room _ = ⊥
 
 -- what refuses a cut and its font before they are opened for a kind: the cut, or else the font
 abbrev pub RefusesFonts : List ℕ → List ℕ → Refusal → Type 0
@@ -114,24 +116,9 @@ abbrev pub cut_of_set : Kind × (List ℕ × Bool) → WantedSet → List ℕ
 cut_of_set font set =
     cut_in font.0 font.1.0 (wanted_in (asked (Some set.codes) (option_map (λ v. v.items) set.numbers)))
 
--- that is the cut for the codes of ranges and for these glyphs
-abbrev pub IsWantedSet : Kind × (List ℕ × Bool) → List CodeRange → List ℕ → WantedSet → Type 0
-IsWantedSet font ranges glyphs set =
-    cut_of_set font set ≡ cut_as font (record { codes = wanted_by ranges; glyphs = glyphs_wanted (Some glyphs) })
-
--- the cut of an opened font for what is wanted
-abbrev pub cut_opened : Kind × (List ℕ × Bool) → Request → List ℕ
-cut_opened font r = cut_as font (record { codes = wanted_by r.ranges; glyphs = glyphs_wanted (Some r.glyphs) })
-
--- the cuts for the first n sets, and where the ranges and the glyphs of the others begin
-pub record AreSetsTo (cut : Request → List ℕ) (sets : Sets) (n from glyph_from : ℕ) (cuts : List (List ℕ))
-    : Type 0 where
-  pub left : from + sum (drop n sets.counts) ≡ length sets.ranges
-  pub glyphs_left : glyph_from + sum (drop n sets.glyph_counts) ≡ length sets.glyphs
-  pub cuts_are :
-      cuts ++ map cut (requests_in sets.closes (drop n sets.counts) (drop from sets.ranges) (drop n sets.glyph_counts)
-      (drop glyph_from sets.glyphs))
-      ≡ map cut (requests_of sets)
+-- the cut of an opened font for what is asked
+abbrev pub cut_opened : Kind × (List ℕ × Bool) → Asked → List ℕ
+cut_opened font a = cut_as font (wished a)
 
 -- the files of sources, by their contents
 abbrev pub files_of : {S : Type 0} → (S → Content) → List S → List (List ℕ)
@@ -168,3 +155,9 @@ RefusesFiles files room _ = ⊥
 abbrev pub RefusesRoom : ℕ → ℕ → Refusal → Type 0
 RefusesRoom count room (SmallRoom size) = (size ≡ count) × (room < size)
 RefusesRoom count room _ = ⊥
+
+-- a text is not as it should be, or memory ran out
+abbrev pub IsBadText : Refusal → Type 0
+IsBadText (BadText index) = Unit {0}
+IsBadText NoMemory = Unit {0}
+IsBadText _ = ⊥

@@ -1,9 +1,9 @@
 -- The numbers of the kinds of cuts for C, this project's own, and what a call answers that is given one.
-use Rattle.std.specs.Prelude.{◌≡◌, ℕ, Bool, false, true, List, [], ◌∷◌, length, nat_eq, Option, MatchOption}
+use Rattle.std.specs.Prelude.{◌≡◌, ℕ, Bool, true, List, [], ◌∷◌, length, nat_eq, Option, MatchOption}
 use Rattle.sfnt_bytes.specs.Lines.{first_of_lines, when}
 use Rattle.font_theory.specs.declared.kinds.Kind.{Kind}
 use Rattle.font_theory.specs.declared.kinds.Kind.TheVariants.{Full, Layout, Lean, Variable}
-use Rattle.fontcut_c.specs.Answers.{no_numbers, unknown_kind}
+use Rattle.fontcut_c.specs.Answers.{unknown_kind}
 use Rattle.fontcut_c.specs.declared.answer.Answer.{Answer}
 
 -- the kind of a number, and none for a number that is no kind's
@@ -22,11 +22,6 @@ takes_glyphs Full glyphs = nat_eq (length glyphs) 0
 takes_glyphs Lean glyphs = true
 takes_glyphs Layout glyphs = true
 takes_glyphs Variable glyphs = true
-
--- what a call answers that is given a kind and glyphs: what it says of these, or that full cuts take none
-pub record AnswersByNumber (kind : Kind) (glyphs : List ℕ) (answer : Answer) (says : Type 0) : Type 0 where
-  pub taken : takes_glyphs kind glyphs ≡ true → says
-  pub untaken : takes_glyphs kind glyphs ≡ false → answer ≡ no_numbers
 
 -- a number is that of a kind, of which this holds
 abbrev pub HoldsInKind : ℕ → (Kind → Type 0) → Type 0

@@ -10,4 +10,6 @@ pub mod Inside
 pub mod Joining
 pub mod KindNumbers
 pub mod Mapped
+pub mod Requests
 pub mod Text
+pub mod TextRanges

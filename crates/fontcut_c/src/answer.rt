@@ -1,20 +1,27 @@
 //! What each call answers.
 ghost use Rattle.std.specs.Prelude.{◌≡◌};
-ghost use Rattle.fontcut_c.specs.Answers.{at_step, done as done_with, no_numbers as no_numbers_with, refused as refused_with, sized as sized_with, told as told_with, unknown_kind as unknown_kind_with};
+ghost use Rattle.fontcut_c.specs.Answers.{at_step, bad_requests as bad_requests_with, done as done_with, no_numbers as no_numbers_with, refused as refused_with, sized as sized_with, told as told_with, unknown_kind as unknown_kind_with, unknown_request as unknown_request_with};
 
 /// The status of a number that was given for a kind of cuts and is none's.
 const UNKNOWN_KIND: u8 = 101;
 
+/// The status of requests that are not alike, or not as many as there are places.
+const BAD_REQUESTS: u8 = 103;
+
 /// The status of glyphs that are asked for by number of full cuts.
 const NO_NUMBERS: u8 = 104;
+
+/// The status of a request that is not of this version, and of a sum of flags that is none.
+const UNKNOWN_REQUEST: u8 = 105;
 
 /// What a call answers. A field that has nothing to tell is 0.
 #[repr(C)]
 #[derive(Clone, Copy, Debug, PartialEq, Eq)]
 pub struct Answer {
-    /// 0 where the call is done, 100 where the room is too small, 101 where there is no such kind of cuts, 102
-    /// where the font has no such glyph, 103 where counts do not add up, 104 where glyphs are asked for by number
-    /// of full cuts, and else the number of the refusal.
+    /// 0 where the call is done, 100 where the room is too small, 101 where there is no such kind of cuts, 102 where the
+    /// font has no such glyph, 103 where requests are not alike, 104 where glyphs are asked for by number of full cuts,
+    /// 105 where a request is not of this version, 106 where a text is not as it should be, and else the number of the
+    /// refusal.
     pub status: u32,
     /// What a refusal names: a tag as a big-endian number, an index, a glyph, a code or the number that is no
     /// kind's; and the answer to a question.
@@ -22,7 +29,8 @@ pub struct Answer {
     /// How many bytes, ranges, glyphs or metrics were written; and where the status is 100 or 18, how many there
     /// are.
     pub size: u64,
-    /// Which of several files is refused, or was being joined when memory ran out, counted from 0.
+    /// Which of several files or requests is refused, or which file was being joined when memory ran out, counted from
+    /// 0.
     pub step: u64,
 }
 
@@ -75,6 +83,20 @@ impl Answer {
         ensures { result ≡ no_numbers_with }
     {
         Answer::refused(NO_NUMBERS, 0)
+    }
+
+    /// Returns the answer where requests are not alike, or not as many as there are places.
+    pub(crate) fn bad_requests() -> Answer
+        ensures { result ≡ bad_requests_with }
+    {
+        Answer::refused(BAD_REQUESTS, 0)
+    }
+
+    /// Returns the answer to a request, or a sum of flags, that this version does not know.
+    pub(crate) fn unknown_request() -> Answer
+        ensures { result ≡ unknown_request_with }
+    {
+        Answer::refused(UNKNOWN_REQUEST, 0)
     }
 
     /// Returns a status that says a size.

@@ -4,7 +4,7 @@ ghost use Rattle.font_file.specs.Font.{font_fault};
 ghost use Rattle.font_subset.specs.CutOfKind.{form_as};
 ghost use Rattle.font_theory.specs.Kinds.{fault_of};
 ghost use Rattle.fontcut_c.specs.Answers.{form_number};
-ghost use Rattle.fontcut_c.specs.Forms.{AnswersBelonging, AnswersForm, IsBelonging, RefusesFont, RefusesPair};
+ghost use Rattle.fontcut_c.specs.Forms.{AnswersBelonging, AnswersForm, IsBelonging, RefusesForm, RefusesPair};
 ghost use Rattle.fontcut_c.specs.Inside.{RefusesFonts, of_unopened_second};
 
 use crate::answer::Answer;
@@ -18,7 +18,7 @@ use std::alloc::Global;
 fn form_of_font(alloc: Global, kind: Kind, font: &Font<'_>) -> Result<CutForm, Refusal>
     requires { font_fault font.now ≡ None }
     ensures { MatchResult result (λ form. (fault_of kind font.now ≡ None) × (form ≡ form_as kind font.now))
-        (RefusesFont kind font.now) }
+        (RefusesForm kind font.now) }
 {
     let opened = FontOfKind::open(alloc, kind, font)?;
     Ok(form_of_kind(alloc, &opened)?)
@@ -28,7 +28,7 @@ fn form_of_font(alloc: Global, kind: Kind, font: &Font<'_>) -> Result<CutForm, R
 #[tactic(auto, using(crate::proofs::CutLemmas::refused_for))]
 fn form_of(alloc: Global, kind: Kind, file: &[u8]) -> Result<CutForm, Refusal>
     ensures { MatchResult result (λ form. (fault_of kind file.now ≡ None) × (form ≡ form_as kind file.now))
-        (RefusesFont kind file.now) }
+        (RefusesForm kind file.now) }
 {
     let font = Font::open(file)?;
     form_of_font(alloc, kind, &font)

@@ -2,19 +2,11 @@
 ghost use Rattle.std.specs.Prelude.{◌≡◌, ◌+◌, ◌≤◌, MatchResult, length};
 ghost use Rattle.font_theory.specs.File.{current_writing, file};
 ghost use Rattle.font_write.specs.WholeFile.{IsFileSize};
-ghost use Rattle.fontcut_c.specs.Inside.{IsFileInRoom, IsFileLength, IsLargerFile, IsPutAt, IsSmallFile, RefusesFile, RefusesFileSize};
+ghost use Rattle.fontcut_c.specs.Inside.{IsFileInRoom, IsLargerFile, IsPutAt, IsSmallFile, RefusesFile};
 
 use crate::filled::fill;
 use crate::refusal::Refusal;
 use font_write::{CURRENT, Size, Source, file_size, measured, plan_of};
-
-/// Returns how many bytes the file of a source has, where these are not too many.
-pub(crate) fn size_of<S: Source>(source: &S) -> Result<u64, Refusal>
-    ensures { MatchResult result (IsFileLength (file current_writing (S.content_of source.now)))
-        (RefusesFileSize (file current_writing (S.content_of source.now))) }
-{
-    Ok(measured(source).map_err(Refusal::TooLarge)?.bytes)
-}
 
 /// Writes the file of a source, which has been measured, to the front of room, and returns its length.
 /// It asks for no memory. Refused with that length, where there is less room.

@@ -1,59 +1,58 @@
-//! The cut of a font, of a kind, measured, and written to the caller's room.
-ghost use Rattle.std.specs.Prelude.{◌≡◌, ◌≤◌, MatchResult, None, length};
+//! The cut of a font that is asked for, written to the caller's room.
+ghost use Rattle.std.specs.Prelude.{◌≡◌, MatchResult, None, Some, length, true};
 ghost use Rattle.font_file.specs.Font.{font_fault};
-ghost use Rattle.sfnt_bytes.specs.declared.directory.TheConstants.{MAX_FILE};
-ghost use Rattle.fontcut_c.specs.Cutting.{IsAccepted, IsCutInRoom, IsCutSize, RefusesCut, RefusesSize, requested};
-ghost use Rattle.fontcut_c.specs.Inside.{IsOpenedFor, RefusesOpening, RefusesRequest};
+ghost use Rattle.fontcut_c.specs.Cutting.{AcceptsRequest, IsCutInRoom, RefusesAsked, RefusesSubset};
+ghost use Rattle.fontcut_c.specs.Inside.{IsOpened, IsOpenedFor, RefusesOpening, RefusesRequest};
+ghost use Rattle.fontcut_c.specs.Requests.{asked_by, has_checked};
 
-use crate::caller_room::{size_of, write_to};
+use crate::caller_room::write_to;
 use crate::glyph_metrics::first_no_glyph;
 use crate::refusal::Refusal;
-use crate::requests::CutRequest;
+use crate::requests::{Request, is_checked};
 use crate::wanted_ranges::first_bad;
 use crate::wanted_set::{source_of, wanted_set};
-use font_file::Font;
+use font_file::{Font, FontError};
 use font_subset::{FontToCut, keeps_layout};
 use font_theory::Kind;
 use std::alloc::Global;
 
-// Tells what is the first of an accepted font that refuses what is wanted of it: a bad range, or a number that is no glyph.
-fn check_request(font: &Font<'_>, request: &CutRequest<'_>) -> Result<(), Refusal>
-    requires { font_fault font.now ≡ None }
-    ensures { MatchResult result (λ _. IsAccepted font.now (requested request.now))
-        (RefusesRequest font.now (requested request.now)) }
+/// Opens a font, which is not tested where a sum of flags says that it was accepted before.
+pub(crate) fn opened<'a>(flags: u32, file: &'a [u8]) -> Result<Font<'a>, FontError>
+    requires { has_checked flags ≡ true → font_fault file.now ≡ None }
+    ensures { MatchResult result (IsOpened file.now) (λ error. font_fault file.now ≡ Some error) }
 {
-    if let Some(index) = first_bad(request.ranges) {
+    if is_checked(flags) {
+        Ok(Font::open_checked(file))
+    } else {
+        Font::open(file)
+    }
+}
+
+/// Tells what is the first that an accepted font refuses of a request: a bad range, or a number that is no glyph.
+pub(crate) fn check_request(font: &Font<'_>, request: &Request<'_>) -> Result<(), Refusal>
+    requires { font_fault font.now ≡ None }
+    ensures { MatchResult result (λ _. AcceptsRequest font.now (asked_by request.now))
+        (RefusesAsked font.now (asked_by request.now)) }
+{
+    if let Some(index) = first_bad(request.wanted_ranges()) {
         return Err(Refusal::BadRange(index));
     }
-    match first_no_glyph(font, request.glyphs) {
+    match first_no_glyph(font, request.wanted_glyphs()) {
         Some(index) => Err(Refusal::NoGlyph(index)),
         None => Ok(()),
     }
 }
 
-/// Opens a font of which something is wanted, or returns the first of what refuses that.
+/// Opens a font of which something is asked, or returns the first of what refuses that.
 pub(crate) fn opened_for_request<'a>(
     file: &'a [u8],
-    request: &CutRequest<'_>,
+    request: &Request<'_>,
 ) -> Result<Font<'a>, Refusal>
-    ensures { MatchResult result (λ font. (font ≡ file.now) × IsAccepted file.now (requested request.now))
-        (RefusesRequest file.now (requested request.now)) }
+    requires { has_checked (asked_by request.now).flags ≡ true → font_fault file.now ≡ None }
+    ensures { MatchResult result (λ font. (font ≡ file.now) × AcceptsRequest file.now (asked_by request.now))
+        (RefusesRequest file.now (asked_by request.now)) }
 {
-    let font = Font::open(file)?;
-    check_request(&font, request)?;
-    Ok(font)
-}
-
-// Opens a font that is accepted, of which something is wanted, or returns the first of what refuses that.
-fn opened_checked_for_request<'a>(
-    file: &'a [u8],
-    request: &CutRequest<'_>,
-) -> Result<Font<'a>, Refusal>
-    requires { font_fault file.now ≡ None }
-    ensures { MatchResult result (λ font. (font ≡ file.now) × IsAccepted file.now (requested request.now))
-        (RefusesRequest file.now (requested request.now)) }
-{
-    let font = Font::open_checked(file);
+    let font = opened(request.flags, file)?;
     check_request(&font, request)?;
     Ok(font)
 }
@@ -64,32 +63,15 @@ pub(crate) fn opened_to_cut<'f, 'a>(
     alloc: Global,
     kind: Kind,
     font: &'f Font<'a>,
-    request: &CutRequest<'_>,
+    request: &Request<'_>,
 ) -> Result<FontToCut<'f, 'a>, Refusal>
-    requires { IsAccepted font.now (requested request.now) }
+    requires { font_fault font.now ≡ None }
     ensures { MatchResult result
-        (λ opened. IsOpenedFor kind font.entry.now (requested request.now) opened)
-        (RefusesOpening kind font.entry.now (requested request.now)) }
+        (λ opened. IsOpenedFor kind font.entry.now (asked_by request.now) opened)
+        (RefusesOpening kind font.entry.now (asked_by request.now)) }
 {
-    let opened = FontToCut::open(alloc, kind, request.closes && keeps_layout(kind), font)?;
+    let opened = FontToCut::open(alloc, kind, request.closes() && keeps_layout(kind), font)?;
     Ok(opened)
-}
-
-// Returns how many bytes the cut of an opened font has, of a kind.
-fn measure_cut(
-    alloc: Global,
-    kind: Kind,
-    font: &Font<'_>,
-    request: &CutRequest<'_>,
-) -> Result<u64, Refusal>
-    requires { IsAccepted font.now (requested request.now) }
-    ensures { MatchResult result (λ size. IsCutSize kind font.now (requested request.now) size × (size ≤ MAX_FILE))
-        (RefusesSize kind font.now (requested request.now)) }
-{
-    let opened = opened_to_cut(alloc, kind, font, request)?;
-    let set = wanted_set(alloc, &opened, request.ranges, request.glyphs)?;
-    let source = source_of(alloc, opened.font(), &set)?;
-    size_of(&source)
 }
 
 // Writes the cut of an opened font, of a kind, to the front of room, and returns its length.
@@ -97,78 +79,33 @@ fn write_cut(
     alloc: Global,
     kind: Kind,
     font: &Font<'_>,
-    request: &CutRequest<'_>,
+    request: &Request<'_>,
     out: &mut [u8],
 ) -> Result<u64, Refusal>
-    requires { IsAccepted font.now (requested request.now) }
-    ensures { MatchResult result (IsCutInRoom kind font.now (requested request.now) out.old out.new)
+    requires { AcceptsRequest font.now (asked_by request.now) }
+    ensures { MatchResult result (IsCutInRoom kind font.now (asked_by request.now) out.old out.new)
         (λ refusal. (out.new ≡ out.old)
-        × RefusesCut kind font.now (requested request.now) (length out.old) refusal) }
+        × RefusesSubset kind font.now (asked_by request.now) (length out.old) refusal) }
 {
     let opened = opened_to_cut(alloc, kind, font, request)?;
-    let set = wanted_set(alloc, &opened, request.ranges, request.glyphs)?;
+    let set = wanted_set(alloc, &opened, request)?;
     let source = source_of(alloc, opened.font(), &set)?;
     write_to(&source, out)
 }
 
-/// Returns how many bytes the cut of a font has, of a kind. No cut is built.
-pub(crate) fn cut_size(
-    alloc: Global,
-    kind: Kind,
-    file: &[u8],
-    request: &CutRequest<'_>,
-) -> Result<u64, Refusal>
-    ensures { MatchResult result (λ size. IsCutSize kind file.now (requested request.now) size × (size ≤ MAX_FILE))
-        (RefusesSize kind file.now (requested request.now)) }
-{
-    let font = opened_for_request(file, request)?;
-    measure_cut(alloc, kind, &font, request)
-}
-
-/// Returns a size as `cut_size` does, for a font that is accepted: it is not tested again.
-pub(crate) fn checked_cut_size(
-    alloc: Global,
-    kind: Kind,
-    file: &[u8],
-    request: &CutRequest<'_>,
-) -> Result<u64, Refusal>
-    requires { font_fault file.now ≡ None }
-    ensures { MatchResult result (λ size. IsCutSize kind file.now (requested request.now) size × (size ≤ MAX_FILE))
-        (RefusesSize kind file.now (requested request.now)) }
-{
-    let font = opened_checked_for_request(file, request)?;
-    measure_cut(alloc, kind, &font, request)
-}
-
-/// Writes the cut of a font, of a kind, to the front of room, and returns its length.
+/// Writes the cut of a font that is asked for, of a kind, to the front of room, and returns its length.
 pub(crate) fn cut_to(
     alloc: Global,
     kind: Kind,
     file: &[u8],
-    request: &CutRequest<'_>,
+    request: &Request<'_>,
     out: &mut [u8],
 ) -> Result<u64, Refusal>
-    ensures { MatchResult result (IsCutInRoom kind file.now (requested request.now) out.old out.new)
+    requires { has_checked (asked_by request.now).flags ≡ true → font_fault file.now ≡ None }
+    ensures { MatchResult result (IsCutInRoom kind file.now (asked_by request.now) out.old out.new)
         (λ refusal. (out.new ≡ out.old)
-        × RefusesCut kind file.now (requested request.now) (length out.old) refusal) }
+        × RefusesSubset kind file.now (asked_by request.now) (length out.old) refusal) }
 {
     let font = opened_for_request(file, request)?;
-    write_cut(alloc, kind, &font, request, out)
-}
-
-/// Writes a cut as `cut_to` does, for a font that is accepted: it is not tested again.
-pub(crate) fn checked_cut_to(
-    alloc: Global,
-    kind: Kind,
-    file: &[u8],
-    request: &CutRequest<'_>,
-    out: &mut [u8],
-) -> Result<u64, Refusal>
-    requires { font_fault file.now ≡ None }
-    ensures { MatchResult result (IsCutInRoom kind file.now (requested request.now) out.old out.new)
-        (λ refusal. (out.new ≡ out.old)
-        × RefusesCut kind file.now (requested request.now) (length out.old) refusal) }
-{
-    let font = opened_checked_for_request(file, request)?;
     write_cut(alloc, kind, &font, request, out)
 }

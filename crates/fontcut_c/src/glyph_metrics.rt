@@ -1,9 +1,11 @@
 //! The metrics of glyphs, written to the caller's room. OpenType 1.9, `hmtx`.
-ghost use Rattle.std.specs.Prelude.{◌≡◌, ◌<◌, ◌≤◌, ◌++◌, MatchOption, MatchResult, None, drop, length};
+ghost use Rattle.std.specs.Prelude.{◌≡◌, ◌<◌, ◌≤◌, ◌++◌, MatchOption, MatchResult, None, drop, length, true};
 ghost use Rattle.font_file.specs.Font.{font_fault};
 ghost use Rattle.font_tables.specs.Fields.{glyph_count_of};
 ghost use Rattle.fontcut_c.specs.Glyphs.{AreGlyphs, AreMetricsInRoom, IsFirstNoGlyph, RefusesMetrics, metric_in, metrics_of};
+ghost use Rattle.fontcut_c.specs.Requests.{has_checked};
 
+use crate::cutting::opened;
 use crate::refusal::Refusal;
 use font_file::Font;
 
@@ -67,23 +69,17 @@ fn metrics_in(font: &Font<'_>, glyphs: &[u16], out: &mut [Metric]) -> Result<u64
     Ok(glyphs.len() as u64)
 }
 
-/// Writes the metrics of each glyph to the front of room, and returns how many they are. It asks for no memory.
-pub(crate) fn metrics_to(file: &[u8], glyphs: &[u16], out: &mut [Metric]) -> Result<u64, Refusal>
-    ensures { MatchResult result (AreMetricsInRoom file.now glyphs.now out.old out.new)
-        (λ refusal. (out.new ≡ out.old) × RefusesMetrics file.now glyphs.now (length out.old) refusal) }
-{
-    metrics_in(&Font::open(file)?, glyphs, out)
-}
-
-/// Writes metrics as `metrics_to` does, for a font that is accepted: it is not tested again.
-pub(crate) fn checked_metrics_to(
+/// Writes the metrics of each glyph to the front of room, and returns how many they are. It asks for no memory. The font is
+/// not tested where a sum of flags says that it was accepted.
+pub(crate) fn metrics_to(
+    flags: u32,
     file: &[u8],
     glyphs: &[u16],
     out: &mut [Metric],
 ) -> Result<u64, Refusal>
-    requires { font_fault file.now ≡ None }
+    requires { has_checked flags ≡ true → font_fault file.now ≡ None }
     ensures { MatchResult result (AreMetricsInRoom file.now glyphs.now out.old out.new)
         (λ refusal. (out.new ≡ out.old) × RefusesMetrics file.now glyphs.now (length out.old) refusal) }
 {
-    metrics_in(&Font::open_checked(file), glyphs, out)
+    metrics_in(&opened(flags, file)?, glyphs, out)
 }

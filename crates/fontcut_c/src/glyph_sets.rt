@@ -1,15 +1,16 @@
 //! Sets of glyphs, written to the caller's room: closures under the links of `GSUB`, and what a file keeps. OpenType 1.9,
 //! GSUB.
-ghost use Rattle.std.specs.Prelude.{◌≡◌, MatchResult, None, length};
+ghost use Rattle.std.specs.Prelude.{◌≡◌, MatchResult, None, length, true};
 ghost use Rattle.font_file.specs.Font.{font_fault};
 ghost use Rattle.fontcut_c.specs.Answers.{IsInRoom};
-ghost use Rattle.fontcut_c.specs.Cutting.{IsAccepted, requested};
+ghost use Rattle.fontcut_c.specs.Cutting.{AcceptsRequest};
 ghost use Rattle.fontcut_c.specs.GlyphSets.{IsClosureInRoom, IsKeptInRoom, RefusesClosure, RefusesKept};
 ghost use Rattle.fontcut_c.specs.Inside.{RefusesRoom};
+ghost use Rattle.fontcut_c.specs.Requests.{asked_by, has_checked};
 
 use crate::cutting::opened_for_request;
 use crate::refusal::Refusal;
-use crate::requests::CutRequest;
+use crate::requests::Request;
 use crate::wanted_ranges::wanted_of;
 use font_file::Font;
 use font_subset::{FontOfKind, FontToCut, kept_glyphs};
@@ -33,17 +34,17 @@ fn write_closure(
     alloc: Global,
     kind: Kind,
     font: &Font<'_>,
-    request: &CutRequest<'_>,
+    request: &Request<'_>,
     out: &mut [u16],
 ) -> Result<u64, Refusal>
-    requires { IsAccepted font.now (requested request.now) }
-    ensures { MatchResult result (IsClosureInRoom kind font.now (requested request.now) out.old out.new)
+    requires { AcceptsRequest font.now (asked_by request.now) }
+    ensures { MatchResult result (IsClosureInRoom kind font.now (asked_by request.now) out.old out.new)
         (λ refusal. (out.new ≡ out.old)
-        × RefusesClosure kind font.now (requested request.now) (length out.old) refusal) }
+        × RefusesClosure kind font.now (asked_by request.now) (length out.old) refusal) }
 {
     let opened = FontToCut::open(alloc, kind, true, font)?;
-    let codes = wanted_of(alloc, request.ranges)?;
-    let glyphs = opened.closure(alloc, Some(&codes), request.glyphs)?;
+    let codes = wanted_of(alloc, request.wanted_ranges())?;
+    let glyphs = opened.closure(alloc, Some(&codes), request.wanted_glyphs())?;
     numbers_to(&glyphs, out)
 }
 
@@ -52,12 +53,13 @@ pub(crate) fn closure_to(
     alloc: Global,
     kind: Kind,
     file: &[u8],
-    request: &CutRequest<'_>,
+    request: &Request<'_>,
     out: &mut [u16],
 ) -> Result<u64, Refusal>
-    ensures { MatchResult result (IsClosureInRoom kind file.now (requested request.now) out.old out.new)
+    requires { has_checked (asked_by request.now).flags ≡ true → font_fault file.now ≡ None }
+    ensures { MatchResult result (IsClosureInRoom kind file.now (asked_by request.now) out.old out.new)
         (λ refusal. (out.new ≡ out.old)
-        × RefusesClosure kind file.now (requested request.now) (length out.old) refusal) }
+        × RefusesClosure kind file.now (asked_by request.now) (length out.old) refusal) }
 {
     let font = opened_for_request(file, request)?;
     write_closure(alloc, kind, &font, request, out)

@@ -1,10 +1,12 @@
 //! The glyphs to which a font maps codes, written to the caller's room. OpenType 1.9, cmap: Character to Glyph Index
 //! Mapping Table.
-ghost use Rattle.std.specs.Prelude.{◌≡◌, ◌≤◌, ◌++◌, MatchResult, None, drop, length};
+ghost use Rattle.std.specs.Prelude.{◌≡◌, ◌≤◌, ◌++◌, MatchResult, None, drop, length, true};
 ghost use Rattle.font_file.specs.Font.{font_fault, map_of};
 ghost use Rattle.fontcut_c.specs.Glyphs.{AreGlyphsInRoom, RefusesGlyphs, glyphs_of};
 ghost use Rattle.fontcut_c.specs.Inside.{IsChartOf};
+ghost use Rattle.fontcut_c.specs.Requests.{has_checked};
 
+use crate::cutting::opened;
 use crate::refusal::Refusal;
 use font_file::Font;
 use font_map::Chart;
@@ -62,29 +64,17 @@ fn glyphs_in(alloc: Global, font: &Font<'_>, codes: &[u32], out: &mut [u16]) -> 
 
 /// Writes the glyph of each code to the front of room, 0 where the font maps it to none, and returns how many
 /// they are. Where the subtable is out of order and the codes are many, it asks for memory for a list of all glyphs, and
-/// looks each code up by itself if there is none.
+/// looks each code up by itself if there is none. The font is not tested where a sum of flags says that it was accepted.
 pub(crate) fn glyphs_to(
     alloc: Global,
+    flags: u32,
     file: &[u8],
     codes: &[u32],
     out: &mut [u16],
 ) -> Result<u64, Refusal>
+    requires { has_checked flags ≡ true → font_fault file.now ≡ None }
     ensures { MatchResult result (AreGlyphsInRoom file.now codes.now out.old out.new)
         (λ refusal. (out.new ≡ out.old) × RefusesGlyphs file.now codes.now (length out.old) refusal) }
 {
-    glyphs_in(alloc, &Font::open(file)?, codes, out)
-}
-
-/// Writes glyphs as `glyphs_to` does, for a font that is accepted: it is not tested again.
-pub(crate) fn checked_glyphs_to(
-    alloc: Global,
-    file: &[u8],
-    codes: &[u32],
-    out: &mut [u16],
-) -> Result<u64, Refusal>
-    requires { font_fault file.now ≡ None }
-    ensures { MatchResult result (AreGlyphsInRoom file.now codes.now out.old out.new)
-        (λ refusal. (out.new ≡ out.old) × RefusesGlyphs file.now codes.now (length out.old) refusal) }
-{
-    glyphs_in(alloc, &Font::open_checked(file), codes, out)
+    glyphs_in(alloc, &opened(flags, file)?, codes, out)
 }

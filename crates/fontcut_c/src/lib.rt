@@ -19,48 +19,50 @@ mod mapped;
 mod refusal;
 mod requests;
 mod text;
+mod text_ranges;
 mod wanted_ranges;
 mod wanted_set;
 
-ghost use Rattle.std.specs.Prelude.{◌≡◌, ◌≢◌, IfErr, None, length, map};
+ghost use Rattle.std.specs.Prelude.{◌≡◌, ◌≢◌, IfErr, None, length, map, true};
 ghost use Rattle.std.specs.List.{concat};
+ghost use Rattle.commands.specs.Run.{HoldsOfFont, cut_for};
 ghost use Rattle.font_file.specs.Font.{font_fault};
-ghost use Rattle.font_subset.specs.CutOfFont.{cut_of};
 ghost use Rattle.font_theory.specs.Kinds.{format_of};
-ghost use Rattle.font_theory.specs.declared.kinds.Kind.TheVariants.{Full};
-ghost use Rattle.fontcut_c.specs.Answers.{IsInRoom, check_answer, size_answer};
-ghost use Rattle.fontcut_c.specs.ManyCuts.{AnswersCuts, codes_sets, cuts_for, exact_sets};
-ghost use Rattle.fontcut_c.specs.Cutting.{AnswersCut, AnswersCutSize, closing_request, codes_request, cut_for, exact_request, wanted_by};
+ghost use Rattle.fontcut_c.specs.Answers.{IsInRoom, check_answer, size_answer, stepped_answer};
+ghost use Rattle.fontcut_c.specs.ManyCuts.{AnswersSubsets, cuts_for};
+ghost use Rattle.fontcut_c.specs.Cutting.{AnswersSubset};
 ghost use Rattle.fontcut_c.specs.Forms.{AnswersBelonging, AnswersForm};
-ghost use Rattle.fontcut_c.specs.GlyphSets.{AnswersClosure, AnswersKept, closure_of, kept_of};
-ghost use Rattle.fontcut_c.specs.Glyphs.{AnswersGlyphs, AnswersMetrics, glyphs_of, metrics_of};
+ghost use Rattle.fontcut_c.specs.GlyphSets.{AnswersClosure, AnswersKept, IsForClosedCut, closure_of, kept_of};
+ghost use Rattle.fontcut_c.specs.Glyphs.{AnswersGlyphs, AnswersLookUp, AnswersMetrics, glyphs_of, metrics_of};
 ghost use Rattle.fontcut_c.specs.Info.{info_of};
 ghost use Rattle.fontcut_c.specs.Joining.{AnswersJoin, IsJoinInRoom};
-ghost use Rattle.fontcut_c.specs.KindNumbers.{AnswersByNumber, AnswersInKind, HoldsInKind};
+ghost use Rattle.fontcut_c.specs.KindNumbers.{AnswersInKind, HoldsInKind};
 ghost use Rattle.fontcut_c.specs.Mapped.{AnswersCodes};
+ghost use Rattle.fontcut_c.specs.Requests.{AnswersRead, HoldsRead, asked_at, asked_by, has_checked, read, read_all, request_of};
 ghost use Rattle.fontcut_c.specs.Text.{AnswersText, NamesFile, answer_text, check_text, refusal_text};
-ghost use Rattle.fontcut_c.specs.declared.TheConstants.{VERSION};
+ghost use Rattle.fontcut_c.specs.TextRanges.{AnswersRanges};
 
 pub use crate::answer::Answer;
 pub use crate::any_error::AnyError;
 use crate::belonging::{belonging_answer, form_answer};
-use crate::cutting::{checked_cut_size, checked_cut_to, cut_size, cut_to};
+use crate::cutting::cut_to;
 pub use crate::glyph_metrics::Metric;
-use crate::glyph_metrics::{checked_metrics_to, metrics_to};
+use crate::glyph_metrics::metrics_to;
 use crate::glyph_sets::{closure_to, kept_to};
-use crate::glyphs::{checked_glyphs_to, glyphs_to};
+use crate::glyphs::glyphs_to;
 pub use crate::info::Info;
 use crate::info::info_in;
 use crate::joining::join_to;
-use crate::kind::{kind_of_number, takes_glyphs};
-use crate::many_cuts::cuts_to;
+use crate::kind::kind_of_number;
+use crate::many_cuts::{RefusedAt, cuts_to};
 use crate::mapped::codes_to;
 pub use crate::refusal::Refusal;
-use crate::requests::{CutRequest, SetsRequest};
+pub use crate::requests::Request;
+use crate::requests::read_requests;
 use crate::text::text_to;
+use crate::text_ranges::{listed_to, needed_to};
 pub use codes::CodeRange;
 use font_file::Font;
-use font_theory::Kind;
 use std::alloc::Global;
 
 /// Says whether a font is accepted: status 0, or the first refusal that applies, whose text [`fontcut_refusal_text`]
@@ -89,269 +91,68 @@ fn answered(outcome: Result<u64, Refusal>) -> Answer
     }
 }
 
-/// Gives the size in bytes of the cut of a font for the codes of the ranges, of the kind that the number names.
-/// No cut is built. Status 101 where the number names no kind, which is asked before all else.
-#[unsafe(no_mangle)]
-pub extern "C" fn fontcut_subset_size(
-    alloc: Global,
-    kind: u32,
-    font: &[u8],
-    ranges: &[CodeRange],
-) -> Answer
-    ensures { AnswersInKind kind result (λ k. AnswersCutSize k font.now (codes_request ranges.now) result) }
+// Returns the answer of a call for many requests that writes this much, or is refused at one of them.
+fn answered_at(outcome: Result<u64, RefusedAt>) -> Answer
+    ensures { result ≡ stepped_answer outcome }
 {
-    match kind_of_number(kind) {
-        Some(kind) => answered(cut_size(alloc, kind, font, &CutRequest::of_codes(ranges))),
-        None => Answer::unknown_kind(kind),
+    match outcome {
+        Ok(size) => Answer::done(size),
+        Err((step, refusal)) => refusal.answer().at(step),
     }
 }
 
-/// Writes the cut of a font for the codes of the ranges, of the kind that the number names, to the front of
-/// `out`. A refusal leaves `out` as it was. Status 101 where the number names no kind, which is asked before
-/// all else.
+/// Writes the cut of a font that is asked for to the front of `out`. A refusal leaves `out` as it was. Before all else a
+/// request that is not of this version is answered by 105, a number that is no kind's by 101, and full cuts for glyphs by
+/// 104.
 #[unsafe(no_mangle)]
 pub extern "C" fn fontcut_subset(
     alloc: Global,
-    kind: u32,
+    request: &Request<'_>,
     font: &[u8],
-    ranges: &[CodeRange],
     out: &mut [u8],
 ) -> Answer
-    ensures exact { AnswersInKind kind result
-        (λ k. AnswersCut k font.now (codes_request ranges.now) out.old out.new result) }
-    ensures done { result.status ≡ 0 → HoldsInKind kind
-        (λ k. IsInRoom (cut_for k font.now (codes_request ranges.now)) out.old out.new result.size) }
+    requires { has_checked (asked_by request.now).flags ≡ true → font_fault font.now ≡ None }
+    ensures exact { let a = asked_by request.now in AnswersRead (read a) result
+        (λ k. AnswersSubset k font.now a out.old out.new result) }
+    ensures done { let a = asked_by request.now in result.status ≡ 0 → HoldsRead (read a)
+        (λ k. IsInRoom (cut_for (request_of k a) font.now) out.old out.new result.size) }
+    ensures holds { let a = asked_by request.now in result.status ≡ 0 → HoldsRead (read a)
+        (λ k. HoldsOfFont (request_of k a) font.now) }
     ensures untouched { result.status ≢ 0 → out.new ≡ out.old }
 {
-    match kind_of_number(kind) {
-        Some(kind) => answered(cut_to(alloc, kind, font, &CutRequest::of_codes(ranges), out)),
-        None => Answer::unknown_kind(kind),
+    match request.read() {
+        Ok(kind) => answered(cut_to(alloc, kind, font, request, out)),
+        Err(unread) => unread,
     }
 }
 
-/// Gives what [`fontcut_subset_size`] gives, of a font that [`fontcut_check`] has accepted: these bytes, or
-/// others that are the same. The font is not tested again, but for the tables of layout and of variations
-/// that the cut keeps.
+/// Writes the cuts of a font for many requests, which differ in their ranges and glyphs alone, to the front of `out`, end
+/// to end in the order of the requests, and the length of each to `sizes`. A refusal leaves `out` and `sizes` as they
+/// were; where it is of a request, `step` is its index. Before all else 103 answers that there is no request, that they
+/// differ, or that `sizes` has another number of places than there are requests, and then 105, 101 and 104 as for
+/// [`fontcut_subset`].
 #[unsafe(no_mangle)]
-pub extern "C" fn fontcut_subset_size_checked(
+pub extern "C" fn fontcut_subsets(
     alloc: Global,
-    kind: u32,
+    requests: &[Request<'_>],
     font: &[u8],
-    ranges: &[CodeRange],
-) -> Answer
-    requires { font_fault font.now ≡ None }
-    ensures { AnswersInKind kind result (λ k. AnswersCutSize k font.now (codes_request ranges.now) result) }
-{
-    match kind_of_number(kind) {
-        Some(kind) => answered(checked_cut_size(alloc, kind, font, &CutRequest::of_codes(ranges))),
-        None => Answer::unknown_kind(kind),
-    }
-}
-
-/// Does what [`fontcut_subset`] does, with a font that [`fontcut_check`] has accepted: these bytes, or
-/// others that are the same. The font is not tested again, but for the tables of layout and of variations
-/// that the cut keeps.
-#[unsafe(no_mangle)]
-pub extern "C" fn fontcut_subset_checked(
-    alloc: Global,
-    kind: u32,
-    font: &[u8],
-    ranges: &[CodeRange],
-    out: &mut [u8],
-) -> Answer
-    requires { font_fault font.now ≡ None }
-    ensures exact { AnswersInKind kind result
-        (λ k. AnswersCut k font.now (codes_request ranges.now) out.old out.new result) }
-    ensures done { result.status ≡ 0 → HoldsInKind kind
-        (λ k. IsInRoom (cut_for k font.now (codes_request ranges.now)) out.old out.new result.size) }
-    ensures untouched { result.status ≢ 0 → out.new ≡ out.old }
-{
-    match kind_of_number(kind) {
-        Some(kind) => answered(checked_cut_to(
-            alloc,
-            kind,
-            font,
-            &CutRequest::of_codes(ranges),
-            out,
-        )),
-        None => Answer::unknown_kind(kind),
-    }
-}
-
-/// Gives the size in bytes of the cut of a font for the codes of the ranges and for the glyphs of these numbers, of the
-/// kind that the number names. No links are followed: layout and variable cuts have just these glyphs and what they are
-/// made of, and serve text that was shaped to them; [`fontcut_closure`] gives what serves other text. No cut is built.
-/// Status 101 where the number names no kind, and then 104 where full cuts are asked for glyphs, which is asked before all
-/// else; status 102 where a number is no glyph of the font, and `detail` is the first such index.
-#[unsafe(no_mangle)]
-pub extern "C" fn fontcut_subset_glyphs_size(
-    alloc: Global,
-    kind: u32,
-    font: &[u8],
-    ranges: &[CodeRange],
-    glyphs: &[u16],
-) -> Answer
-    ensures { AnswersInKind kind result (λ k. AnswersByNumber k glyphs.now result
-        (AnswersCutSize k font.now (exact_request ranges.now glyphs.now) result)) }
-{
-    match kind_of_number(kind) {
-        Some(kind) if takes_glyphs(kind, glyphs) => {
-            answered(cut_size(alloc, kind, font, &CutRequest::exact(ranges, glyphs)))
-        }
-        Some(_) => Answer::no_numbers(),
-        None => Answer::unknown_kind(kind),
-    }
-}
-
-/// Writes the cut that [`fontcut_subset_glyphs_size`] measures to the front of `out`. A refusal leaves `out` as it was.
-#[unsafe(no_mangle)]
-pub extern "C" fn fontcut_subset_glyphs(
-    alloc: Global,
-    kind: u32,
-    font: &[u8],
-    ranges: &[CodeRange],
-    glyphs: &[u16],
-    out: &mut [u8],
-) -> Answer
-    ensures exact { AnswersInKind kind result (λ k. AnswersByNumber k glyphs.now result
-        (AnswersCut k font.now (exact_request ranges.now glyphs.now) out.old out.new result)) }
-    ensures done { result.status ≡ 0 → HoldsInKind kind
-        (λ k. IsInRoom (cut_for k font.now (exact_request ranges.now glyphs.now)) out.old out.new result.size) }
-    ensures untouched { result.status ≢ 0 → out.new ≡ out.old }
-{
-    match kind_of_number(kind) {
-        Some(kind) if takes_glyphs(kind, glyphs) => {
-            answered(cut_to(alloc, kind, font, &CutRequest::exact(ranges, glyphs), out))
-        }
-        Some(_) => Answer::no_numbers(),
-        None => Answer::unknown_kind(kind),
-    }
-}
-
-/// Gives what [`fontcut_subset_glyphs_size`] gives, of a font that [`fontcut_check`] has accepted: these bytes, or others
-/// that are the same. The font is not tested again.
-#[unsafe(no_mangle)]
-pub extern "C" fn fontcut_subset_glyphs_size_checked(
-    alloc: Global,
-    kind: u32,
-    font: &[u8],
-    ranges: &[CodeRange],
-    glyphs: &[u16],
-) -> Answer
-    requires { font_fault font.now ≡ None }
-    ensures { AnswersInKind kind result (λ k. AnswersByNumber k glyphs.now result
-        (AnswersCutSize k font.now (exact_request ranges.now glyphs.now) result)) }
-{
-    match kind_of_number(kind) {
-        Some(kind) if takes_glyphs(kind, glyphs) => {
-            answered(checked_cut_size(alloc, kind, font, &CutRequest::exact(ranges, glyphs)))
-        }
-        Some(_) => Answer::no_numbers(),
-        None => Answer::unknown_kind(kind),
-    }
-}
-
-/// Does what [`fontcut_subset_glyphs`] does, with a font that [`fontcut_check`] has accepted: these bytes, or others that
-/// are the same. The font is not tested again.
-#[unsafe(no_mangle)]
-pub extern "C" fn fontcut_subset_glyphs_checked(
-    alloc: Global,
-    kind: u32,
-    font: &[u8],
-    ranges: &[CodeRange],
-    glyphs: &[u16],
-    out: &mut [u8],
-) -> Answer
-    requires { font_fault font.now ≡ None }
-    ensures exact { AnswersInKind kind result (λ k. AnswersByNumber k glyphs.now result
-        (AnswersCut k font.now (exact_request ranges.now glyphs.now) out.old out.new result)) }
-    ensures done { result.status ≡ 0 → HoldsInKind kind
-        (λ k. IsInRoom (cut_for k font.now (exact_request ranges.now glyphs.now)) out.old out.new result.size) }
-    ensures untouched { result.status ≢ 0 → out.new ≡ out.old }
-{
-    match kind_of_number(kind) {
-        Some(kind) if takes_glyphs(kind, glyphs) => {
-            answered(checked_cut_to(alloc, kind, font, &CutRequest::exact(ranges, glyphs), out))
-        }
-        Some(_) => Answer::no_numbers(),
-        None => Answer::unknown_kind(kind),
-    }
-}
-
-/// Writes the cuts of a font for many sets of codes, of the kind that the number names, to the front of `out`, end to
-/// end in the order of the sets, and the length of each to `sizes`. `ranges` has the ranges of the first set, then
-/// those of the next one, and so on, and `counts` how many each set has. A refusal leaves `out` and `sizes` as they
-/// were. Status 101 where the number names no kind, which is asked before all else, and then 103 where `counts` do not
-/// add up to the number of ranges, or `sizes` has more places or fewer than there are sets.
-#[unsafe(no_mangle)]
-pub extern "C" fn fontcut_cuts(
-    alloc: Global,
-    kind: u32,
-    font: &[u8],
-    ranges: &[CodeRange],
-    counts: &[u64],
     out: &mut [u8],
     sizes: &mut [u64],
 ) -> Answer
-    ensures exact { AnswersInKind kind result
-        (λ k. AnswersCuts k font.now (codes_sets ranges.now counts.now) out.old out.new sizes.old sizes.new result) }
-    ensures done { result.status ≡ 0 → HoldsInKind kind
-        (λ k. IsInRoom (concat (cuts_for k font.now (codes_sets ranges.now counts.now))) out.old out.new result.size) }
-    ensures sizes_done { result.status ≡ 0 → HoldsInKind kind
-        (λ k. sizes.new ≡ map (λ cut. length cut) (cuts_for k font.now (codes_sets ranges.now counts.now))) }
+    requires { has_checked (asked_at (map asked_by requests.now) 0).flags ≡ true → font_fault font.now ≡ None }
+    ensures exact { let all = map asked_by requests.now in AnswersRead (read_all all (length sizes.old)) result
+        (λ k. AnswersSubsets k font.now all out.old out.new sizes.old sizes.new result) }
+    ensures done { let all = map asked_by requests.now in result.status ≡ 0 → HoldsRead (read_all all (length sizes.old))
+        (λ k. IsInRoom (concat (cuts_for k font.now all)) out.old out.new result.size) }
+    ensures sizes_done { let all = map asked_by requests.now in
+        result.status ≡ 0 → HoldsRead (read_all all (length sizes.old))
+        (λ k. sizes.new ≡ map (λ cut. length cut) (cuts_for k font.now all)) }
     ensures untouched { result.status ≢ 0 → out.new ≡ out.old }
     ensures sizes_untouched { result.status ≢ 0 → sizes.new ≡ sizes.old }
 {
-    match kind_of_number(kind) {
-        Some(kind) => answered(cuts_to(
-            alloc,
-            kind,
-            font,
-            &SetsRequest::of_codes(ranges, counts),
-            out,
-            sizes,
-        )),
-        None => Answer::unknown_kind(kind),
-    }
-}
-
-/// Writes the cuts of a font for many sets of codes and of glyphs, as [`fontcut_subset_glyphs`] writes one of them, to the
-/// front of `out`, end to end in the order of the sets, and the length of each to `sizes`. `ranges` and `counts` are those
-/// of [`fontcut_cuts`], `glyphs` has the glyphs of the first set, then those of the next one, and so on, and `glyph_counts`
-/// how many each set has; the sets after the last such count have none. A refusal leaves `out` and `sizes` as they were.
-/// Status 101 where the number names no kind, and then 104 where full cuts are asked for glyphs, which is asked before all
-/// else, and then 103 where counts do not add up, where there are more counts of glyphs than sets, or where `sizes` has
-/// more places or fewer than there are sets.
-#[unsafe(no_mangle)]
-pub extern "C" fn fontcut_cuts_glyphs(
-    alloc: Global,
-    kind: u32,
-    font: &[u8],
-    ranges: &[CodeRange],
-    counts: &[u64],
-    glyphs: &[u16],
-    glyph_counts: &[u64],
-    out: &mut [u8],
-    sizes: &mut [u64],
-) -> Answer
-    ensures exact { let sets = exact_sets ranges.now counts.now glyphs.now glyph_counts.now in
-        AnswersInKind kind result (λ k. AnswersByNumber k glyphs.now result
-        (AnswersCuts k font.now sets out.old out.new sizes.old sizes.new result)) }
-    ensures done { let sets = exact_sets ranges.now counts.now glyphs.now glyph_counts.now in
-        result.status ≡ 0 → HoldsInKind kind
-        (λ k. IsInRoom (concat (cuts_for k font.now sets)) out.old out.new result.size) }
-    ensures sizes_done { let sets = exact_sets ranges.now counts.now glyphs.now glyph_counts.now in
-        result.status ≡ 0 → HoldsInKind kind (λ k. sizes.new ≡ map (λ cut. length cut) (cuts_for k font.now sets)) }
-    ensures untouched { result.status ≢ 0 → out.new ≡ out.old }
-    ensures sizes_untouched { result.status ≢ 0 → sizes.new ≡ sizes.old }
-{
-    match kind_of_number(kind) {
-        Some(kind) if takes_glyphs(kind, glyphs) => {
-            let sets = SetsRequest::exact(ranges, counts, glyphs, glyph_counts);
-            answered(cuts_to(alloc, kind, font, &sets, out, sizes))
-        }
-        Some(_) => Answer::no_numbers(),
-        None => Answer::unknown_kind(kind),
+    match read_requests(requests, sizes.len()) {
+        Ok(kind) => answered_at(cuts_to(alloc, kind, font, requests, out, sizes)),
+        Err(unread) => unread,
     }
 }
 
@@ -381,46 +182,6 @@ pub extern "C" fn fontcut_belongs(alloc: Global, kind: u32, cut: &[u8], font: &[
     }
 }
 
-/// [`fontcut_subset_size`] of a full cut. Deprecated: the next version does not have it.
-#[unsafe(no_mangle)]
-pub extern "C" fn fontcut_cut_size(alloc: Global, font: &[u8], ranges: &[CodeRange]) -> Answer
-    ensures { AnswersCutSize Full font.now (codes_request ranges.now) result }
-{
-    answered(cut_size(alloc, Kind::Full, font, &CutRequest::of_codes(ranges)))
-}
-
-/// [`fontcut_subset`] of a full cut. Deprecated: the next version does not have it.
-#[unsafe(no_mangle)]
-pub extern "C" fn fontcut_cut(
-    alloc: Global,
-    font: &[u8],
-    ranges: &[CodeRange],
-    out: &mut [u8],
-) -> Answer
-    ensures exact { AnswersCut Full font.now (codes_request ranges.now) out.old out.new result }
-    ensures done { result.status ≡ 0 →
-        IsInRoom (cut_of font.now (wanted_by ranges.now)) out.old out.new result.size }
-    ensures untouched { result.status ≢ 0 → out.new ≡ out.old }
-{
-    answered(cut_to(alloc, Kind::Full, font, &CutRequest::of_codes(ranges), out))
-}
-
-/// [`fontcut_cut_form`] of a full cut. Deprecated: the next version does not have it.
-#[unsafe(no_mangle)]
-pub extern "C" fn fontcut_is_cut(alloc: Global, font: &[u8]) -> Answer
-    ensures { AnswersForm Full font.now result }
-{
-    form_answer(alloc, Kind::Full, font)
-}
-
-/// [`fontcut_belongs`] of a full cut. Deprecated: the next version does not have it.
-#[unsafe(no_mangle)]
-pub extern "C" fn fontcut_is_cut_of(alloc: Global, cut: &[u8], font: &[u8]) -> Answer
-    ensures { AnswersBelonging Full cut.now font.now result }
-{
-    belonging_answer(alloc, Kind::Full, cut, font)
-}
-
 /// Writes the join of all files, cuts of the kind that the number names, to the front of `out`. A refusal
 /// leaves `out` as it was, and `step` is the index of the file that is refused. Status 101 where the number
 /// names no kind, which is asked before all else.
@@ -438,17 +199,6 @@ pub extern "C" fn fontcut_join(alloc: Global, kind: u32, files: &[&[u8]], out: &
     }
 }
 
-/// [`fontcut_join`] of full cuts. Deprecated: the next version does not have it.
-#[unsafe(no_mangle)]
-pub extern "C" fn fontcut_join_all(alloc: Global, files: &[&[u8]], out: &mut [u8]) -> Answer
-    ensures exact { let bytes = map (λ f. f.now) files.now in AnswersJoin Full bytes out.old out.new result }
-    ensures done { let bytes = map (λ f. f.now) files.now in result.status ≡ 0 →
-        IsJoinInRoom (format_of Full) bytes out.old out.new result.size }
-    ensures untouched { result.status ≢ 0 → out.new ≡ out.old }
-{
-    answered(join_to(alloc, Kind::Full, files, out))
-}
-
 /// Writes the ranges of the codes that a font maps to the front of `out`, ascending, each as long as it
 /// can be. `size` counts ranges. A refusal leaves `out` as it was.
 #[unsafe(no_mangle)]
@@ -461,51 +211,52 @@ pub extern "C" fn fontcut_codes(alloc: Global, font: &[u8], out: &mut [CodeRange
 
 /// Writes the glyph of each code to the front of `out`, 0 where the font maps it to none. `size` counts glyphs. A
 /// refusal leaves `out` as it was. It needs no memory. For 64 codes and more of a font whose subtable is out of order it
-/// asks for some, and is slower without.
+/// asks for some, and is slower without. `flags` is 2 where the font was accepted before, and is not tested again, and
+/// else 0; another number is answered by 105.
 #[unsafe(no_mangle)]
 pub extern "C" fn fontcut_glyphs(
     alloc: Global,
+    flags: u32,
     font: &[u8],
     codes: &[u32],
     out: &mut [u16],
 ) -> Answer
-    ensures exact { AnswersGlyphs font.now codes.now out.old out.new result }
+    requires { has_checked flags ≡ true → font_fault font.now ≡ None }
+    ensures exact { AnswersLookUp flags result (AnswersGlyphs font.now codes.now out.old out.new result) }
     ensures done { result.status ≡ 0 → IsInRoom (glyphs_of font.now codes.now) out.old out.new result.size }
     ensures untouched { result.status ≢ 0 → out.new ≡ out.old }
 {
-    answered(glyphs_to(alloc, font, codes, out))
+    if flags != 0 && flags != 2 {
+        return Answer::unknown_request();
+    }
+    answered(glyphs_to(alloc, flags, font, codes, out))
 }
 
 /// Writes the glyphs that a shaper may put for text to the front of `out`, ascending: those that chains of links of `GSUB`
-/// lead to, as cuts of the kind that the number names keep it, from .notdef, from the glyphs of the codes of the ranges, and
-/// from these glyphs. `size` counts glyphs. A cut for the same ranges and for these glyphs is closed: it has every glyph to
-/// which links lead from the glyphs of its characters. A shaper may first replace characters, as U+65 U+301 by U+E9: the
-/// ranges have to include those that the text needs. A refusal leaves `out` as it was. Status 101 where the number names no
-/// kind, which is asked before all else, and 102 where a number is no glyph of the font.
+/// lead to, as cuts of the kind that is asked for keep it, from .notdef, from the glyphs of the codes of the ranges, and
+/// from the glyphs that are asked for. `size` counts glyphs. A cut for the same ranges and for these glyphs is closed: it
+/// has every glyph to which links lead from the glyphs of its characters. A shaper may first replace characters, as U+65
+/// U+301 by U+E9: the ranges have to include those that the text needs. A refusal leaves `out` as it was. Before all else
+/// come 105, 101 and 104 as for [`fontcut_subset`].
 #[unsafe(no_mangle)]
 pub extern "C" fn fontcut_closure(
     alloc: Global,
-    kind: u32,
+    request: &Request<'_>,
     font: &[u8],
-    ranges: &[CodeRange],
-    glyphs: &[u16],
     out: &mut [u16],
 ) -> Answer
-    ensures exact { AnswersInKind kind result
-        (λ k. AnswersClosure k font.now (closing_request ranges.now glyphs.now) out.old out.new result) }
-    ensures done { result.status ≡ 0 → HoldsInKind kind
-        (λ k. IsInRoom (closure_of k font.now (closing_request ranges.now glyphs.now)) out.old out.new result.size) }
+    requires { has_checked (asked_by request.now).flags ≡ true → font_fault font.now ≡ None }
+    ensures exact { let a = asked_by request.now in AnswersRead (read a) result
+        (λ k. AnswersClosure k font.now a out.old out.new result) }
+    ensures done { let a = asked_by request.now in result.status ≡ 0 → HoldsRead (read a)
+        (λ k. IsInRoom (closure_of k font.now a) out.old out.new result.size) }
+    ensures closes { let a = asked_by request.now in result.status ≡ 0 → HoldsRead (read a)
+        (λ k. IsForClosedCut k font.now a) }
     ensures untouched { result.status ≢ 0 → out.new ≡ out.old }
 {
-    match kind_of_number(kind) {
-        Some(kind) => answered(closure_to(
-            alloc,
-            kind,
-            font,
-            &CutRequest::closing(ranges, glyphs),
-            out,
-        )),
-        None => Answer::unknown_kind(kind),
+    match request.read() {
+        Ok(kind) => answered(closure_to(alloc, kind, font, request, out)),
+        Err(unread) => unread,
     }
 }
 
@@ -529,43 +280,23 @@ pub extern "C" fn fontcut_kept(alloc: Global, kind: u32, font: &[u8], out: &mut 
 
 /// Writes the advance width and the left side bearing of each glyph to the front of `out`, in font units. `size`
 /// counts glyphs. Status 102 where a number is no glyph of the font, and `detail` is the first such index. A refusal
-/// leaves `out` as it was. It asks for no memory.
+/// leaves `out` as it was. It asks for no memory. `flags` is as for [`fontcut_glyphs`].
 #[unsafe(no_mangle)]
-pub extern "C" fn fontcut_metrics(font: &[u8], glyphs: &[u16], out: &mut [Metric]) -> Answer
-    ensures exact { AnswersMetrics font.now glyphs.now out.old out.new result }
-    ensures done { result.status ≡ 0 → IsInRoom (metrics_of font.now glyphs.now) out.old out.new result.size }
-    ensures untouched { result.status ≢ 0 → out.new ≡ out.old }
-{
-    answered(metrics_to(font, glyphs, out))
-}
-
-/// Does what [`fontcut_glyphs`] does, with a font that [`fontcut_check`] has accepted: these bytes, or others that are
-/// the same. The font is not tested again.
-#[unsafe(no_mangle)]
-pub extern "C" fn fontcut_glyphs_checked(
-    alloc: Global,
+pub extern "C" fn fontcut_metrics(
+    flags: u32,
     font: &[u8],
-    codes: &[u32],
-    out: &mut [u16],
+    glyphs: &[u16],
+    out: &mut [Metric],
 ) -> Answer
-    requires { font_fault font.now ≡ None }
-    ensures exact { AnswersGlyphs font.now codes.now out.old out.new result }
-    ensures done { result.status ≡ 0 → IsInRoom (glyphs_of font.now codes.now) out.old out.new result.size }
-    ensures untouched { result.status ≢ 0 → out.new ≡ out.old }
-{
-    answered(checked_glyphs_to(alloc, font, codes, out))
-}
-
-/// Does what [`fontcut_metrics`] does, with a font that [`fontcut_check`] has accepted: these bytes, or others that are
-/// the same. The font is not tested again.
-#[unsafe(no_mangle)]
-pub extern "C" fn fontcut_metrics_checked(font: &[u8], glyphs: &[u16], out: &mut [Metric]) -> Answer
-    requires { font_fault font.now ≡ None }
-    ensures exact { AnswersMetrics font.now glyphs.now out.old out.new result }
+    requires { has_checked flags ≡ true → font_fault font.now ≡ None }
+    ensures exact { AnswersLookUp flags result (AnswersMetrics font.now glyphs.now out.old out.new result) }
     ensures done { result.status ≡ 0 → IsInRoom (metrics_of font.now glyphs.now) out.old out.new result.size }
     ensures untouched { result.status ≢ 0 → out.new ≡ out.old }
 {
-    answered(checked_metrics_to(font, glyphs, out))
+    if flags != 0 && flags != 2 {
+        return Answer::unknown_request();
+    }
+    answered(metrics_to(flags, font, glyphs, out))
 }
 
 /// Writes the numbers of a whole font to `info`, and answers as [`fontcut_check`]. A refusal leaves `info` as it was.
@@ -585,6 +316,28 @@ pub extern "C" fn fontcut_info(font: &[u8], info: &mut Info) -> Answer
     }
 }
 
+/// Writes the characters of a text in UTF-8, and those that it needs beside them, to the front of `out`, as ascending
+/// ranges that do not touch. `size` counts ranges. Status 106 where the text is not UTF-8, and `detail` is the index of
+/// the first such byte. A refusal leaves `out` as it was.
+#[unsafe(no_mangle)]
+pub extern "C" fn fontcut_needed(alloc: Global, text: &[u8], out: &mut [CodeRange]) -> Answer
+    ensures exact { AnswersRanges out.old out.new result }
+    ensures untouched { result.status ≢ 0 → out.new ≡ out.old }
+{
+    answered(needed_to(alloc, text, out))
+}
+
+/// Writes the codes that the words of a list in UTF-8 name to the front of `out`, as ascending ranges that do not touch.
+/// `size` counts ranges. Status 106 where a word names no range or the list is not UTF-8, and `detail` is the index of the
+/// first byte of what is wrong. A refusal leaves `out` as it was.
+#[unsafe(no_mangle)]
+pub extern "C" fn fontcut_ranges(alloc: Global, list: &[u8], out: &mut [CodeRange]) -> Answer
+    ensures exact { AnswersRanges out.old out.new result }
+    ensures untouched { result.status ≢ 0 → out.new ≡ out.old }
+{
+    answered(listed_to(alloc, list, out))
+}
+
 /// Writes the text of what another call answered to the front of `out`: the text of the error that the answer says,
 /// and none where it says none, as where that call was done. A refusal leaves `out` as it was.
 #[unsafe(no_mangle)]
@@ -602,7 +355,7 @@ const VERSION: u32 = 0x000B00;
 /// third one. It is 0x010203 for 1.2.3.
 #[unsafe(no_mangle)]
 pub extern "C" fn fontcut_version() -> u32
-    ensures { result ≡ VERSION }
+    ensures { result ≡ 0x000B00 }
 {
     VERSION
 }

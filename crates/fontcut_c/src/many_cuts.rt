@@ -1,19 +1,19 @@
-//! The cuts of a font for many sets, of a kind, measured, and written end to end to the caller's room.
-ghost use Rattle.std.specs.Prelude.{◌≡◌, ◌≤◌, ◌++◌, ◌∷◌, ◌↔◌, [], IfOk, IsTrue, MatchResult, OnOk, Some, length, map, slice_index_or, sum};
-ghost use Rattle.std.specs.List.{concat};
+//! The cuts of a font for many requests, measured, and written end to end to the caller's room.
+ghost use Rattle.std.specs.Prelude.{◌≡◌, ◌<◌, ◌≤◌, ◌++◌, ◌∷◌, [], IfOk, MatchResult, None, OnOk, Some, length, map, true};
+ghost use Rattle.std.specs.List.{concat, list_all};
 ghost use Rattle.std.specs.Option.{option_map};
+ghost use Rattle.font_file.specs.Font.{font_fault};
 ghost use Rattle.font_subset.specs.CutOfKind.{cut_as};
 ghost use Rattle.font_subset.specs.KeptGlyphs.{asked, glyphs_wanted};
-ghost use Rattle.fontcut_c.specs.Cutting.{IsAccepted, wanted_by};
-ghost use Rattle.fontcut_c.specs.ManyCuts.{AddUp, AreCutsInRoom, AreInRoom, AreSmall, IsFirstLarge, RefusesCuts, RefusesSets, asked_sets, cuts_for, of_all, requests_of, size_of_all};
-ghost use Rattle.fontcut_c.specs.Inside.{RefusesFiles, RefusesRequestForSets, cut_of_set, cut_opened, files_of};
+ghost use Rattle.fontcut_c.specs.ManyCuts.{AcceptsAll, AreCutsInRoom, AreInRoom, AreSmall, IsFirstLarge, RefusesOne, RefusesSubsets, size_of_all};
+ghost use Rattle.fontcut_c.specs.Inside.{RefusesAll, RefusesCuts, RefusesFiles, cut_of_set, cut_opened, files_of};
+ghost use Rattle.fontcut_c.specs.Requests.{asked_at, asked_by, has_checked, is_like, wanted_by};
 
 use crate::caller_room::fill_at;
-use crate::cutting::{opened_for_request, opened_to_cut};
+use crate::cutting::{check_request, opened, opened_to_cut};
 use crate::refusal::Refusal;
-use crate::requests::SetsRequest;
+use crate::requests::Request;
 use crate::wanted_set::{WantedSet, source_of, wanted_set};
-use codes::CodeRange;
 use font_file::Font;
 use font_subset::{CutOfKind, FontOfKind, FontToCut};
 use font_theory::Kind;
@@ -21,96 +21,74 @@ use font_write::{Source, measured};
 use sfnt_bytes::NoMemory;
 use std::alloc::Global;
 
-// Returns whether counts add up to a number.
-fn add_up(counts: &[u64], total: usize) -> bool
-    ensures { IsTrue result ↔ sum counts.now ≡ total }
+/// The index of a request, and why it is refused. A refusal that is of none has the index 0.
+pub(crate) type RefusedAt = (u64, Refusal);
+
+// Tells the first request that an accepted font refuses, and why.
+fn check_requests(font: &Font<'_>, requests: &[Request<'_>]) -> Result<(), RefusedAt>
+    requires { font_fault font.now ≡ None }
+    ensures { let all = map asked_by requests.now in MatchResult result (λ _. AcceptsAll font.now all)
+        (λ at. RefusesOne font.now all at.0 at.1) }
 {
-    let mut left = total as u64;
-    for index in 0..counts.len() {
-        if left < counts[index] {
-            return false;
+    for index in 0..requests.len() {
+        match check_request(font, &requests[index]) {
+            Ok(()) => {}
+            Err(refusal) => return Err((index as u64, refusal)),
         }
-        left -= counts[index];
     }
-    left == 0
+    Ok(())
 }
 
-// Opens a font of which sets are wanted, or returns the first of what refuses that.
-fn opened_for_sets<'a>(
+// Opens a font of which something is asked by requests, or returns the first of what refuses that.
+fn opened_for_requests<'a>(
+    flags: u32,
     file: &'a [u8],
-    sets: &SetsRequest<'_>,
-    places: usize,
-) -> Result<Font<'a>, Refusal>
-    ensures { MatchResult result (λ font. (font ≡ file.now) × AddUp (asked_sets sets.now) places
-        × IsAccepted file.now (of_all (asked_sets sets.now)))
-        (RefusesRequestForSets file.now (asked_sets sets.now) places) }
+    requests: &[Request<'_>],
+) -> Result<Font<'a>, RefusedAt>
+    requires { has_checked flags ≡ true → font_fault file.now ≡ None }
+    ensures { let all = map asked_by requests.now in MatchResult result
+        (λ font. (font ≡ file.now) × (font_fault file.now ≡ None) × AcceptsAll file.now all)
+        (λ at. RefusesAll file.now all at.0 at.1) }
 {
-    if places != sets.counts.len() || !add_up(sets.counts, sets.ranges.len()) {
-        return Err(Refusal::BadCounts);
-    }
-    if sets.counts.len() < sets.glyph_counts.len()
-        || !add_up(sets.glyph_counts, sets.glyphs.len())
-    {
-        return Err(Refusal::BadCounts);
-    }
-    opened_for_request(file, &sets.of_all())
+    let font = match opened(flags, file) {
+        Ok(font) => font,
+        Err(error) => return Err((0, Refusal::Font(error))),
+    };
+    check_requests(&font, requests)?;
+    Ok(font)
 }
 
-// Returns the count at an index, and 0 where there is none.
-fn count_at(counts: &[u64], index: usize) -> usize
-    ensures { result ≡ slice_index_or counts.now index 0 }
-{
-    if index < counts.len() {
-        return counts[index] as usize;
-    }
-    0
-}
-
-// Puts what is wanted of one set after those of other sets.
+// Puts what one request asks of an opened font after what others ask of it.
 fn push_set(
     alloc: Global,
     font: &FontToCut<'_, '_>,
-    ranges: &[CodeRange],
-    glyphs: &[u16],
+    request: &Request<'_>,
     sets: &mut Vec<WantedSet>,
 ) -> Result<(), NoMemory>
     ensures { OnOk result (map (cut_of_set font.now) sets.new.items ≡ map (cut_of_set font.now) sets.old.items
-        ++ cut_as font.now (record { codes = wanted_by ranges.now; glyphs = glyphs_wanted (Some glyphs.now) }) ∷ []) }
+        ++ cut_opened font.now (asked_by request.now) ∷ []) }
 {
-    sets.push(wanted_set(alloc, font, ranges, glyphs)?)
+    sets.push(wanted_set(alloc, font, request)?)
         .map_err(|_| NoMemory)
 }
 
-// Returns what is wanted of each set.
+// Returns what each request asks of an opened font.
 fn sets_in(
     alloc: Global,
     font: &FontToCut<'_, '_>,
-    request: &SetsRequest<'_>,
+    requests: &[Request<'_>],
 ) -> Result<Vec<WantedSet>, NoMemory>
-    requires ranges { sum request.now.counts.now ≡ length request.now.ranges.now }
-    requires glyphs { sum request.now.glyph_counts.now ≡ length request.now.glyphs.now }
     ensures { IfOk result (λ sets. map (cut_of_set font.now) sets.items
-        ≡ map (cut_opened font.now) (requests_of (asked_sets request.now))) }
+        ≡ map (cut_opened font.now) (map asked_by requests.now)) }
 {
     let mut sets = Vec::new(alloc);
-    let (mut from, mut glyph_from) = (0, 0);
-    for index in 0..request.counts.len() {
-        let end = from + request.counts[index] as usize;
-        let glyph_end = glyph_from + count_at(request.glyph_counts, index);
-        push_set(
-            alloc,
-            font,
-            &request.ranges[from..end],
-            &request.glyphs[glyph_from..glyph_end],
-            &mut sets,
-        )?;
-        from = end;
-        glyph_from = glyph_end;
+    for index in 0..requests.len() {
+        push_set(alloc, font, &requests[index], &mut sets)?;
     }
     Ok(sets)
 }
 
-// Returns what the cut of a font for each set is made of, of the kind that it was opened for.
+// Returns what the cut of a font for each request is made of, of the kind that it was opened for.
 fn sources_of<'f, 'a>(
     alloc: Global,
     font: &'f FontOfKind<'f, 'a>,
@@ -175,43 +153,54 @@ fn write_all<S: Source>(sources: &[S], out: &mut [u8], sizes: &mut [u64]) -> Res
     Ok(put_all(sources, out, sizes))
 }
 
-// Writes the cuts of an opened font for all sets, of a kind. The font is opened for the kind and its links are read once, and
-// all memory is asked for before the first byte is written.
+// Writes the cuts of an opened font for all requests, of a kind. The font is opened for the kind and its links are read
+// once, and all memory is asked for before the first byte is written.
 fn write_cuts(
     alloc: Global,
     kind: Kind,
     font: &Font<'_>,
-    request: &SetsRequest<'_>,
+    requests: &[Request<'_>],
     out: &mut [u8],
     sizes: &mut [u64],
 ) -> Result<u64, Refusal>
-    requires accepted { IsAccepted font.now (of_all (asked_sets request.now)) }
-    requires added { AddUp (asked_sets request.now) (length sizes.old) }
-    ensures { MatchResult result (AreCutsInRoom kind font.now (asked_sets request.now) out.old out.new sizes.new)
+    requires accepted { font_fault font.now ≡ None }
+    requires all { AcceptsAll font.now (map asked_by requests.now) }
+    requires some { 0 < length requests.now }
+    requires alike { let all = map asked_by requests.now in list_all (is_like (asked_at all 0)) all ≡ true }
+    requires places { length sizes.old ≡ length requests.now }
+    ensures { let all = map asked_by requests.now in
+        MatchResult result (AreCutsInRoom kind font.now all out.old out.new sizes.new)
         (λ refusal. (out.new ≡ out.old) × (sizes.new ≡ sizes.old)
-        × RefusesCuts kind font.now (of_all (asked_sets request.now)) (cuts_for kind font.now (asked_sets request.now))
-        (length out.old) refusal) }
+        × RefusesCuts kind font.now all (length out.old) refusal) }
 {
-    let opened = opened_to_cut(alloc, kind, font, &request.of_all())?;
-    let sets = sets_in(alloc, &opened, request)?;
+    let opened = opened_to_cut(alloc, kind, font, &requests[0])?;
+    let sets = sets_in(alloc, &opened, requests)?;
     let sources = sources_of(alloc, opened.font(), sets.as_slice())?;
     write_all(sources.as_slice(), out, sizes)
 }
 
-/// Writes the cuts of a font for all sets, of a kind, end to end to the front of room, and their lengths to sizes,
+/// Writes the cuts of a font for all requests, of a kind, end to end to the front of room, and their lengths to sizes,
 /// and returns the sum of the lengths.
 pub(crate) fn cuts_to(
     alloc: Global,
     kind: Kind,
     file: &[u8],
-    request: &SetsRequest<'_>,
+    requests: &[Request<'_>],
     out: &mut [u8],
     sizes: &mut [u64],
-) -> Result<u64, Refusal>
-    ensures { MatchResult result (AreCutsInRoom kind file.now (asked_sets request.now) out.old out.new sizes.new)
-        (λ refusal. (out.new ≡ out.old) × (sizes.new ≡ sizes.old)
-        × RefusesSets kind file.now (asked_sets request.now) (length sizes.old) (length out.old) refusal) }
+) -> Result<u64, RefusedAt>
+    requires checked { has_checked (asked_at (map asked_by requests.now) 0).flags ≡ true → font_fault file.now ≡ None }
+    requires some { 0 < length requests.now }
+    requires alike { let all = map asked_by requests.now in list_all (is_like (asked_at all 0)) all ≡ true }
+    requires places { length sizes.old ≡ length requests.now }
+    ensures { let all = map asked_by requests.now in
+        MatchResult result (AreCutsInRoom kind file.now all out.old out.new sizes.new)
+        (λ at. (out.new ≡ out.old) × (sizes.new ≡ sizes.old)
+        × RefusesSubsets kind file.now all (length out.old) at.0 at.1) }
 {
-    let font = opened_for_sets(file, request, sizes.len())?;
-    write_cuts(alloc, kind, &font, request, out, sizes)
+    let font = opened_for_requests(requests[0].flags, file, requests)?;
+    match write_cuts(alloc, kind, &font, requests, out, sizes) {
+        Ok(size) => Ok(size),
+        Err(refusal) => Err((0, refusal)),
+    }
 }

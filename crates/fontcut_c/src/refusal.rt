@@ -16,6 +16,7 @@ use font_join::{JoinAllError, JoinError};
 use font_subset::OpenError;
 use font_tables::TableError;
 use sfnt_bytes::{DirError, NoMemory, Tag, numbers};
+use std::alloc::AllocError;
 
 /// The status of a room that is too small.
 const SMALL_ROOM: u8 = 100;
@@ -23,8 +24,8 @@ const SMALL_ROOM: u8 = 100;
 /// The status of a number that is no glyph of the font.
 const NO_GLYPH: u8 = 102;
 
-/// The status of counts of sets that do not add up.
-const BAD_COUNTS: u8 = 103;
+/// The status of a text that is not as it should be.
+const BAD_TEXT: u8 = 106;
 
 /// Why a call is not done.
 #[derive(Clone, Copy, Debug, PartialEq, Eq)]
@@ -37,9 +38,8 @@ pub enum Refusal {
     Join(JoinAllError),
     /// The range at this index ends before it begins, or past the last code point.
     BadRange(usize),
-    /// The counts of the sets do not add up to the number of ranges or of glyphs, there are more counts of glyphs than
-    /// sets, or another number of sizes than of sets.
-    BadCounts,
+    /// The text is not UTF-8, or a word of it names no range, from the byte at this index on.
+    BadText(usize),
     /// The number at this index is no glyph of the font.
     NoGlyph(usize),
     /// Out of memory.
@@ -70,6 +70,14 @@ impl From<NoMemory> for Refusal {
     ghost from_gives = { λ held refusal. refusal ≡ MemoryRefused };
 
     fn from(_error: NoMemory) -> Refusal {
+        Refusal::NoMemory
+    }
+}
+
+impl From<AllocError> for Refusal {
+    ghost from_gives = { λ held refusal. refusal ≡ MemoryRefused };
+
+    fn from(_error: AllocError) -> Refusal {
         Refusal::NoMemory
     }
 }
@@ -177,7 +185,7 @@ impl Refusal {
             Refusal::Second(error) => refused_font(error).at(1),
             Refusal::Join(error) => refused_list(error),
             Refusal::BadRange(index) => Answer::refused(numbers::BAD_RANGE, detail_of(index)),
-            Refusal::BadCounts => Answer::refused(BAD_COUNTS, 0),
+            Refusal::BadText(index) => Answer::refused(BAD_TEXT, detail_of(index)),
             Refusal::NoGlyph(index) => Answer::refused(NO_GLYPH, detail_of(index)),
             Refusal::NoMemory => Answer::refused(numbers::NO_MEMORY, 0),
             Refusal::TooLarge(size) => Answer::sized(numbers::TOO_LARGE, size),

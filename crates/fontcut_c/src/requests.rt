@@ -1,113 +1,147 @@
-//! What is wanted of a font.
-ghost use Rattle.std.specs.Prelude.{◌≡◌};
-ghost use Rattle.fontcut_c.specs.Cutting.{closing_request, codes_request, exact_request, requested};
-ghost use Rattle.fontcut_c.specs.ManyCuts.{asked_sets, codes_sets, exact_sets, of_all};
+//! What is asked of a font, as callers write it, and how that is read.
+ghost use Rattle.std.specs.Prelude.{◌≡◌, ◌≢◌, ◌<◌, IfErr, IfOk, length, map, true};
+ghost use Rattle.std.specs.List.{list_all};
+ghost use Rattle.fontcut_c.specs.Requests.{asked_at, asked_by, has_checked, has_closes, is_like, is_of_this_version, read, read_all};
+ghost use Rattle.fontcut_c.specs.KindNumbers.{takes_glyphs as takes};
 
+use crate::answer::Answer;
+use crate::kind::{kind_of_number, takes_glyphs};
 use codes::CodeRange;
+use font_theory::Kind;
 
-/// What is wanted of a font.
+/// The size of a request in bytes, which callers write into it.
+const REQUEST_SIZE: usize = 48;
+
+/// What is asked of a font.
+#[repr(C)]
 #[derive(Clone, Copy, Drop)]
-pub(crate) struct CutRequest<'a> {
+pub struct Request<'a> {
+    /// The size of this struct in bytes, so that a later version can have more fields.
+    pub struct_size: usize,
+    /// The number of the kind of cuts.
+    pub kind: u32,
+    /// The sum of flags: 1 where layout and variable cuts have all that links of `GSUB` lead to, and 2 where the font was
+    /// accepted before, and is not tested again.
+    pub flags: u32,
     /// The ranges of the wanted codes.
-    pub(crate) ranges: &'a [CodeRange],
+    pub ranges: &'a [CodeRange],
     /// The wanted glyphs, by number.
-    pub(crate) glyphs: &'a [u16],
-    /// Whether layout and variable cuts have all that links of `GSUB` lead to from there.
-    pub(crate) closes: bool,
+    pub glyphs: &'a [u16],
 }
 
-impl<'a> CutRequest<'a> {
-    /// Wants the codes of ranges alone, with all that links lead to.
-    pub(crate) fn of_codes(ranges: &'a [CodeRange]) -> CutRequest<'a>
-        ensures { requested result ≡ codes_request ranges.entry.now }
+/// Returns whether a sum of flags has that of a font that was accepted before.
+pub(crate) fn is_checked(flags: u32) -> bool
+    ensures { result ≡ has_checked flags }
+{
+    flags == 2 || flags == 3
+}
+
+// Tells whether a request has the size and no flags but those of this version.
+fn is_known(request: &Request<'_>) -> bool
+    ensures { result ≡ is_of_this_version (asked_by request.now) }
+{
+    request.struct_size == REQUEST_SIZE && request.flags < 4
+}
+
+// Tells whether a request differs from another in its ranges and glyphs alone.
+fn is_alike(first: &Request<'_>, request: &Request<'_>) -> bool
+    ensures { result ≡ is_like (asked_by first.now) (asked_by request.now) }
+{
+    request.struct_size == first.struct_size
+        && request.kind == first.kind
+        && request.flags == first.flags
+}
+
+// Tells whether all requests differ from another in their ranges and glyphs alone.
+fn are_alike(first: &Request<'_>, requests: &[Request<'_>]) -> bool
+    ensures { result ≡ list_all (is_like (asked_by first.now)) (map asked_by requests.now) }
+{
+    for index in 0..requests.len() {
+        if !is_alike(first, &requests[index]) {
+            return false;
+        }
+    }
+    true
+}
+
+// Tells whether cuts of a kind can be asked for the glyphs of each request.
+fn are_taken(kind: Kind, requests: &[Request<'_>]) -> bool
+    ensures { result ≡ list_all (λ a. takes kind a.glyphs) (map asked_by requests.now) }
+{
+    for index in 0..requests.len() {
+        if !takes_glyphs(kind, requests[index].glyphs) {
+            return false;
+        }
+    }
+    true
+}
+
+impl<'a> Request<'a> {
+    /// Returns whether layout and variable cuts have all that links of `GSUB` lead to.
+    pub(crate) fn closes(&self) -> bool
+        ensures { result ≡ has_closes (asked_by self.now).flags }
     {
-        CutRequest {
-            ranges,
-            glyphs: &[],
-            closes: true,
+        self.flags == 1 || self.flags == 3
+    }
+
+    /// Returns the ranges. For none a caller may write NULL, which no slice of Rattle's is.
+    pub(crate) fn wanted_ranges(&self) -> &'a [CodeRange]
+        ensures { result.now ≡ (asked_by self.now).ranges }
+    {
+        if self.ranges.is_empty() {
+            &[]
+        } else {
+            self.ranges
         }
     }
 
-    /// Wants the codes of ranges, and just these glyphs.
-    pub(crate) fn exact(ranges: &'a [CodeRange], glyphs: &'a [u16]) -> CutRequest<'a>
-        ensures { requested result ≡ exact_request ranges.entry.now glyphs.entry.now }
+    /// Returns the glyphs. For none a caller may write NULL, which no slice of Rattle's is.
+    pub(crate) fn wanted_glyphs(&self) -> &'a [u16]
+        ensures { result.now ≡ (asked_by self.now).glyphs }
     {
-        CutRequest {
-            ranges,
-            glyphs,
-            closes: false,
+        if self.glyphs.is_empty() {
+            &[]
+        } else {
+            self.glyphs
         }
     }
 
-    /// Wants the codes of ranges, and glyphs, with all that links lead to.
-    pub(crate) fn closing(ranges: &'a [CodeRange], glyphs: &'a [u16]) -> CutRequest<'a>
-        ensures { requested result ≡ closing_request ranges.entry.now glyphs.entry.now }
+    /// Returns the kind of cuts that is asked for, or what is answered where the request is not of this version, its
+    /// number is no kind's, or glyphs are asked for by number of full cuts.
+    #[tactic(auto, unfolding(crate::specs::Requests::read))]
+    pub(crate) fn read(&self) -> Result<Kind, Answer>
+        ensures exact { result ≡ read (asked_by self.now) }
+        ensures refused { IfErr result (λ answer. answer.status ≢ 0) }
     {
-        CutRequest {
-            ranges,
-            glyphs,
-            closes: true,
+        if !is_known(self) {
+            return Err(Answer::unknown_request());
+        }
+        match kind_of_number(self.kind) {
+            Some(kind) if takes_glyphs(kind, self.glyphs) => Ok(kind),
+            Some(_) => Err(Answer::no_numbers()),
+            None => Err(Answer::unknown_kind(self.kind)),
         }
     }
 }
 
-/// What is wanted of a font for many cuts: the ranges and the glyphs of the first set, then those of the next one, and so
-/// on, and how many of each a set has.
-#[derive(Clone, Copy, Drop)]
-pub(crate) struct SetsRequest<'a> {
-    /// The ranges of the wanted codes of all sets.
-    pub(crate) ranges: &'a [CodeRange],
-    /// How many ranges each set has.
-    pub(crate) counts: &'a [u64],
-    /// The wanted glyphs of all sets, by number.
-    pub(crate) glyphs: &'a [u16],
-    /// How many glyphs each set has. The sets after the last count have none.
-    pub(crate) glyph_counts: &'a [u64],
-    /// Whether layout and variable cuts have all that links of `GSUB` lead to from there.
-    pub(crate) closes: bool,
-}
-
-impl<'a> SetsRequest<'a> {
-    /// Wants sets of codes alone, with all that links lead to.
-    pub(crate) fn of_codes(ranges: &'a [CodeRange], counts: &'a [u64]) -> SetsRequest<'a>
-        ensures { asked_sets result ≡ codes_sets ranges.entry.now counts.entry.now }
-    {
-        SetsRequest {
-            ranges,
-            counts,
-            glyphs: &[],
-            glyph_counts: &[],
-            closes: true,
-        }
+/// Returns the kind of cuts that requests ask for, which are alike and as many as there are places, or what is answered
+/// where there is none.
+#[tactic(auto, unfolding(crate::specs::Requests::read_all))]
+pub(crate) fn read_requests(requests: &[Request<'_>], places: usize) -> Result<Kind, Answer>
+    ensures exact { result ≡ read_all (map asked_by requests.now) places }
+    ensures alike { let all = map asked_by requests.now in
+        IfOk result (λ _. list_all (is_like (asked_at all 0)) all ≡ true) }
+    ensures some { IfOk result (λ _. 0 < length requests.now) }
+    ensures places { IfOk result (λ _. places ≡ length requests.now) }
+    ensures refused { IfErr result (λ answer. answer.status ≢ 0) }
+{
+    if requests.is_empty() || places != requests.len() || !are_alike(&requests[0], requests) {
+        return Err(Answer::bad_requests());
     }
-
-    /// Wants sets of codes and of just these glyphs.
-    pub(crate) fn exact(
-        ranges: &'a [CodeRange],
-        counts: &'a [u64],
-        glyphs: &'a [u16],
-        glyph_counts: &'a [u64],
-    ) -> SetsRequest<'a>
-        ensures { asked_sets result
-            ≡ exact_sets ranges.entry.now counts.entry.now glyphs.entry.now glyph_counts.entry.now }
-    {
-        SetsRequest {
-            ranges,
-            counts,
-            glyphs,
-            glyph_counts,
-            closes: false,
-        }
-    }
-
-    /// Returns what is wanted of all sets together.
-    pub(crate) fn of_all(&self) -> CutRequest<'a>
-        ensures { requested result ≡ of_all (asked_sets self.now) }
-    {
-        CutRequest {
-            ranges: self.ranges,
-            glyphs: self.glyphs,
-            closes: self.closes,
-        }
+    let kind = requests[0].read()?;
+    if are_taken(kind, requests) {
+        Ok(kind)
+    } else {
+        Err(Answer::no_numbers())
     }
 }

@@ -2,7 +2,8 @@
 ghost use Rattle.std.specs.Prelude.{◌≡◌, ◌<◌, ℕ, MatchOption, IfOk};
 ghost use Rattle.std.specs.List.Sorted.{IsPermutation};
 ghost use Rattle.codes.specs.Wanted.{member};
-ghost use Rattle.fontcut_c.specs.Cutting.{AreGood, IsFirstBad, wanted_by};
+ghost use Rattle.fontcut_c.specs.Cutting.{AreGood, IsFirstBad};
+ghost use Rattle.fontcut_c.specs.Requests.{wanted_by};
 
 use codes::{CodeRange, LAST_CODE, Wanted};
 use sfnt_bytes::NoMemory;

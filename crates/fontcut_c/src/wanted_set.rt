@@ -2,10 +2,12 @@
 ghost use Rattle.std.specs.Prelude.{◌≡◌, Some, IfOk};
 ghost use Rattle.std.specs.Option.{option_map};
 ghost use Rattle.font_subset.specs.KeptGlyphs.{asked};
-ghost use Rattle.fontcut_c.specs.Inside.{IsWantedSet};
+ghost use Rattle.fontcut_c.specs.Inside.{cut_of_set, cut_opened};
+ghost use Rattle.fontcut_c.specs.Requests.{asked_by};
 
+use crate::requests::Request;
 use crate::wanted_ranges::wanted_of;
-use codes::{CodeRange, Wanted};
+use codes::Wanted;
 use font_subset::{CutOfKind, FontOfKind, FontToCut, numbers_of};
 use sfnt_bytes::NoMemory;
 use std::alloc::Global;
@@ -18,17 +20,16 @@ pub(crate) struct WantedSet {
     numbers: Option<Vec<u16>>,
 }
 
-/// Wants the codes of ranges of which none is bad, and glyphs.
+/// Returns what a request asks of an opened font, none of whose ranges is bad.
 pub(crate) fn wanted_set(
     alloc: Global,
     font: &FontToCut<'_, '_>,
-    ranges: &[CodeRange],
-    glyphs: &[u16],
+    request: &Request<'_>,
 ) -> Result<WantedSet, NoMemory>
-    ensures { IfOk result (IsWantedSet font.now ranges.now glyphs.now) }
+    ensures { IfOk result (λ set. cut_of_set font.now set ≡ cut_opened font.now (asked_by request.now)) }
 {
-    let codes = wanted_of(alloc, ranges)?;
-    let numbers = font.numbers(alloc, Some(&codes), Some(glyphs))?;
+    let codes = wanted_of(alloc, request.wanted_ranges())?;
+    let numbers = font.numbers(alloc, Some(&codes), Some(request.wanted_glyphs()))?;
     Ok(WantedSet { codes, numbers })
 }
 

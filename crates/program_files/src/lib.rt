@@ -6,6 +6,7 @@ mod arguments;
 mod held_files;
 mod out_file;
 mod out_writer;
+mod replaced_files;
 mod standard_files;
 mod system;
 
@@ -13,5 +14,6 @@ pub use crate::arguments::{unreadable_argument, words_of_line};
 pub use crate::held_files::HeldFiles;
 pub use crate::out_file::{OutFile, Target, standing_file};
 pub use crate::out_writer::OutWriter;
+pub use crate::replaced_files::locked_file;
 pub use crate::standard_files::fill_standard;
 pub use crate::system::{KeepsReason, Reason, System};

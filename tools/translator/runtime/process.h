@@ -193,6 +193,23 @@ static inline u32 sys_flock(u32 file, u32 how) {
     return (u32)flock((int)file, (int)how);
 }
 
+static inline u32 sys_ftruncate(u32 file, u64 length) {
+    return (u32)ftruncate((int)file, (off_t)length);
+}
+
+static inline u32 sys_fchmod(u32 file, u32 mode) {
+    return (u32)fchmod((int)file, (mode_t)mode);
+}
+
+static inline u32 sys_fsync(u32 file) {
+    return (u32)fsync((int)file);
+}
+
+/* Not every system has fdatasync, and fsync does all that it does. */
+static inline u32 sys_fdatasync(u32 file) {
+    return (u32)fsync((int)file);
+}
+
 static inline u32 sys_close(u32 file) {
     return (u32)close((int)file);
 }

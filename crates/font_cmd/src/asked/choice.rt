@@ -1,7 +1,7 @@
 //! The codes that a line of `subset` keeps: those of its words, lists, texts and files, and what texts need; and the
 //! glyphs that it keeps by their numbers.
 use crate::asked::glyph_numbers::{listed_glyphs, names_glyphs};
-use crate::asked::words::{add_files, add_lists, add_text_files, codes_of};
+use crate::asked::words::{add_files, add_lists, add_text_files, characters_of, codes_of};
 use crate::messages::command_error::CommandError;
 use crate::paths::inputs::sources;
 use command_line::{CutKind, Subset};
@@ -48,9 +48,11 @@ fn add_completed<'a>(
 // Returns the codes that the arguments of a line keep.
 fn kept_by<'a>(alloc: Global, line: &Subset<'a>) -> Result<Kept, CommandError<'a>> {
     let mut kept = Kept {
-        wanted: codes_of(alloc, &line.texts, &line.words)?,
+        wanted: codes_of(alloc, &line.words)?,
+        texts: characters_of(alloc, &line.texts)?,
         added: CodeSet::new(alloc),
     };
+    kept.wanted.add_all(alloc, &kept.texts)?;
     add_lists(alloc, &mut kept.wanted, &line.lists)?;
     add_completed(alloc, &mut kept, &line.completed)?;
     if keeps_needed(line) {
@@ -83,6 +85,7 @@ impl Choice {
         }
         let left = Kept {
             wanted: kept.wanted.without(alloc, &gone)?,
+            texts: kept.texts.without(alloc, &gone)?,
             added: kept.added.without(alloc, &gone)?,
         };
         Ok((left, glyphs))
@@ -96,11 +99,13 @@ fn add_texts_of_files<'a, R: Read + Drop>(
     files: Vec<R>,
     kept: &mut Kept,
 ) -> Result<(), CommandError<'a>> {
-    let (paths, wanted) = (&line.text_files, &mut kept.wanted);
+    let (paths, texts) = (&line.text_files, &mut kept.texts);
     if keeps_needed(line) {
-        return add_text_files(alloc, files, paths, wanted, &mut kept.added);
+        add_text_files(alloc, files, paths, texts, &mut kept.added)?;
+    } else {
+        add_files(alloc, files, paths, FileKind::Characters, texts)?;
     }
-    add_files(alloc, files, paths, FileKind::Characters, wanted)
+    Ok(kept.wanted.add_all(alloc, &kept.texts)?)
 }
 
 // The files that a line names, none of which is read yet.

@@ -23,6 +23,16 @@ fn add_words<'a>(codes: &mut CodeSet, words: &[&'a str]) -> Result<(), CommandEr
     Ok(())
 }
 
+/// Returns the codes of words.
+///
+/// # Errors
+/// `BadWord` with the first word that names no range, `Refused` if out of memory.
+pub(crate) fn codes_of<'a>(alloc: Global, words: &[&'a str]) -> Result<CodeSet, CommandError<'a>> {
+    let mut codes = CodeSet::new(alloc);
+    add_words(&mut codes, words)?;
+    Ok(codes)
+}
+
 fn add_text(codes: &mut CodeSet, text: &str) -> Result<(), AllocError> {
     for letter in text.chars() {
         codes.add(letter as u32)?;
@@ -30,17 +40,12 @@ fn add_text(codes: &mut CodeSet, text: &str) -> Result<(), AllocError> {
     Ok(())
 }
 
-/// Returns the codes of words and of the characters of texts.
+/// Returns the codes of the characters of texts.
 ///
 /// # Errors
-/// `BadWord` with the first word that names no range, `Refused` if out of memory.
-pub(crate) fn codes_of<'a>(
-    alloc: Global,
-    texts: &[&str],
-    words: &[&'a str],
-) -> Result<CodeSet, CommandError<'a>> {
+/// `AllocError` if out of memory.
+pub(crate) fn characters_of(alloc: Global, texts: &[&str]) -> Result<CodeSet, AllocError> {
     let mut codes = CodeSet::new(alloc);
-    add_words(&mut codes, words)?;
     for &text in texts {
         add_text(&mut codes, text)?;
     }

@@ -8,6 +8,7 @@ use Rattle.sfnt_bytes.specs.declared.directory.TheConstants.{MAX_FILE}
 use Rattle.streams.specs.Outlet.{WentOut}
 use Rattle.commands.specs.Run.{cut_for, of_cut_error, of_open_error, requested, stray_number}
 use Rattle.commands.specs.declared.run_error.RunError.TheVariants.{Write}
+use Rattle.commands.proofs.HeldLemmas.{holds_of_font}
 use Rattle.commands.proofs.RunLemmas.{cut_err, flush_stops, made_stops, open_stops, sends_end}
 use Rattle.commands.proofs.subset.run_subset_of_font.Goals as goal
 
@@ -70,6 +71,7 @@ returns-clause-sends g c =
           c.finish.ensures.sends;
       unbroken = c.in_ok-finish.ensures.unbroken;
       flushed = c.in_ok-finish.ensures.flushed;
+      holds = holds_of_font r file c.in_ok-opened.ensures.sound small;
       size = subst (λ (z : List ℕ). c.in_ok-size.size ≡ length z) made c.in_ok-size.ensures.size;
       error = tt;
     }

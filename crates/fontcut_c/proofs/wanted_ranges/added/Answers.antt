@@ -1,7 +1,7 @@
 use Rattle.std.proofs.Common.{rules, ◌≡◌, ◌+◌, drop, ap, sym, ◌∙◌, slice_index_or}
 use Rattle.std.proofs.lemmas.List.{at_drop_more}
 use Rattle.codes.specs.Wanted.{codes_between, either, member}
-use Rattle.fontcut_c.specs.Cutting.{with_ranges}
+use Rattle.fontcut_c.specs.Requests.{with_ranges}
 use Rattle.fontcut_c.proofs.wanted_ranges.added.Goals as goal
 
 pub loop-range-init : goal.loop-range-init

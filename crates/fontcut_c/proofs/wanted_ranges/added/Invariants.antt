@@ -1,6 +1,6 @@
 use Rattle.std.proofs.Common.{◌≡◌, drop}
 use Rattle.codes.specs.Wanted.{member}
-use Rattle.fontcut_c.specs.Cutting.{wanted_by, with_ranges}
+use Rattle.fontcut_c.specs.Requests.{wanted_by, with_ranges}
 use Rattle.fontcut_c.proofs.wanted_ranges.added.Given as goal
 
 -- what is in the set, and the ranges that are left, give the codes of all

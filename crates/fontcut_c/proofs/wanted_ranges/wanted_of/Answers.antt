@@ -1,6 +1,6 @@
 use Rattle.std.proofs.Common.{◌≡◌, ℕ, Bool, IfOk, ap, subst, ◌∙◌}
 use Rattle.codes.specs.Wanted.{member}
-use Rattle.fontcut_c.specs.Cutting.{wanted_by}
+use Rattle.fontcut_c.specs.Requests.{wanted_by}
 use Rattle.fontcut_c.proofs.RangeLemmas.{wanted_by_sorted}
 use Rattle.fontcut_c.proofs.wanted_ranges.wanted_of.Goals as goal
 

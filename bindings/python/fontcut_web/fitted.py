@@ -1,0 +1,70 @@
+"""Fonts that are prepared for one cut alone: their layout tables have what its characters need and no more, so that the
+cut is as small as those of other subsetters, and joins with no other."""
+from __future__ import annotations
+
+import contextlib
+import io
+import tempfile
+from typing import Iterable, List, Mapping, Sequence, Tuple
+
+import fontcut
+from fontTools.ttLib import TTFont
+
+from . import characters, preparing, shaping
+from .common import LAYOUT_TABLES, Refused
+from .faces import axes_of
+from .inputs import as_file, file_in
+from .preparing import PrepareOptions
+from .sequences import without_selectors
+from .shaping import Setting, place_of
+
+
+def fitted(font: fontcut.Font, codes: Sequence[int], kind: str, features: Iterable[str] = ()) -> fontcut.Font:
+    """A font, prepared for cuts of a kind for some of its characters, with the features that shapers use and others.
+    Raises `Refused` where that cannot be."""
+    how = PrepareOptions(codes, sorted({*preparing.default_features(), *features}), names="least")
+    made = preparing.with_layout_for(font.data, how, sorted(characters.scripts_of(map(chr, codes))))
+    try:
+        found = fontcut.Font(made)
+        fontcut.cut_size(found, [], kind=kind)
+    except fontcut.Refused as refusal:
+        raise Refused(f"prepared, it is refused: {refusal}") from refusal
+    return found
+
+
+def as_it_is(path: str, refusal: Refused) -> str:
+    """What is said of the font in a file that cannot be prepared, and is cut as it is."""
+    return f"{path} is cut as it is: {refusal}"
+
+
+def layout_size(font: fontcut.Font) -> int:
+    """The bytes of the layout tables of a font, which each of its cuts has."""
+    reader = TTFont(io.BytesIO(font.data), lazy=True).reader
+    return sum(len(reader[tag]) for tag in LAYOUT_TABLES if tag in reader)
+
+
+def _places(data: bytes, kind: str) -> List[Mapping[str, float]]:
+    """Places of the axes of a font at which its cuts of a kind are tried: the default one, and the ends of all."""
+    axes = axes_of(data) if kind == "variable" else {}
+    return [{}, *({tag: values[end] for tag, values in axes.items()} for end in (0, 1) if axes)]
+
+
+def check(path: str, font: fontcut.Font, cut: bytes, kind: str, texts: Sequence[str],
+          sets: Sequence[Tuple[str, ...]] = ((),)) -> None:
+    """Raises `Refused` where a cut of a kind of what was prepared of the font in a file shapes texts otherwise than the
+    font does, with any of these sets of features. Nothing is tried where texts cannot be shaped."""
+    # Cuts drop variation sequences, which is said elsewhere.
+    plain = ["".join(map(chr, without_selectors(map(ord, text)))) for text in texts]
+    texts = list(filter(None, map(str.strip, plain)))
+    if not shaping.is_there() or not texts:
+        return
+    with tempfile.TemporaryDirectory() as folder, contextlib.ExitStack() as opened:
+        # Programs of the command line do not take every name of a file.
+        whole = opened.enter_context(as_file(path, font)) if path.isascii() else file_in(folder, "whole.ttf", font.data)
+        made = file_in(folder, "cut.ttf", cut)
+        for place in _places(font.data, kind):
+            for features in sets:
+                setting = Setting(features=features, place=place_of(place))
+                text = shaping.difference((whole, made), texts, (setting, setting))
+                if text is not None:
+                    raise Refused(f"{path}: prepared, it would shape {text!r} otherwise: --as-is cuts it as it is")
