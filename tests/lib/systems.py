@@ -285,7 +285,7 @@ def by_package(system: System) -> dict[str, str]:
 
 def c_source(folder: str) -> str:
     """The path of the program in C of docs/OPTIONS.md, which is written to a folder."""
-    calls = found_in(text_of("docs/OPTIONS.md"), r"(?:^    (?:fontcut_|if ).*\n){3}", re.M)[0]
+    calls = found_in(text_of("docs/OPTIONS.md"), r"(?:^    (?:fontcut_|if ).*\n){4}", re.M)[0]
     source = os.path.join(folder, "prog.c")
     put(source, C_PROGRAM.replace("CALLS", calls).encode())
     return source
