@@ -51,15 +51,10 @@ typedef enum fontcut_kind {
 
 /* The codes from `first` to `last`, both of them included. A range is bad where `first` lies above `last`, or
  * `last` above 0x10FFFF. Ranges may overlap and come in any order; they are added fastest in ascending order. */
-typedef struct fontcut_range {
-    uint32_t first, last;
-} fontcut_range;
+typedef struct fontcut_range { uint32_t first, last; } fontcut_range;
 
-/* The metrics of a glyph, in font units, as `hmtx` has them. */
-typedef struct fontcut_metric {
-    uint16_t advance; /* the advance width */
-    int16_t bearing;  /* the left side bearing */
-} fontcut_metric;
+/* The metrics of a glyph, in font units, as `hmtx` has them: the advance width and the left side bearing. */
+typedef struct fontcut_metric { uint16_t advance; int16_t bearing; } fontcut_metric;
 
 /* The numbers of a whole font, as `maxp`, `head` and `hhea` have them. The number of glyphs is 1 at least; the others
  * may be any numbers. All but the first two are in font units. */
@@ -70,10 +65,18 @@ typedef struct fontcut_font_info {
 } fontcut_font_info;
 
 /* A file in memory. */
-typedef struct fontcut_bytes {
-    const uint8_t *at;
-    size_t length;
-} fontcut_bytes;
+typedef struct fontcut_bytes { const uint8_t *at; size_t length; } fontcut_bytes;
+
+/* What a cut lacks or drops of what is wanted of a font. A number of which nothing is said is 0. */
+typedef struct fontcut_losses {
+    uint32_t missing, scripts; /* how many wanted characters the font does not map, but for spaces and characters that
+                                * are not seen; and how many scripts it shapes and the cut does not, of those whose text
+                                * cannot be read then */
+    uint32_t first_missing, first_unshaped; /* the first of these characters, and the first one of these scripts */
+    uint32_t axes, colours;      /* how many axes it has, if the cut has none; and the tag of the first table with
+                                  * colours, which cuts drop */
+    uint32_t sequence, selector; /* a wanted variation sequence of it, which cuts drop: its character and selector */
+} fontcut_losses;
 
 /* A flag of a request: layout and variable cuts also have each glyph that GSUB may put for the wanted ones, in any
  * order and with any features. Full and lean cuts keep no GSUB, and are the same with it. */
@@ -195,6 +198,11 @@ fontcut_answer fontcut_subsets(const fontcut_request *requests, size_t request_c
  * 100. */
 fontcut_answer fontcut_closure(const fontcut_request *request, const uint8_t *font, size_t font_length, uint16_t *out,
                                size_t room);
+
+/* Writes what the cut that is asked for lacks or drops of what is wanted to `losses`, as the program `fontcut` says it
+ * of a cut. Statuses: 105; 101; 104; those of fontcut_check, then 15, 102, 16. */
+fontcut_answer fontcut_lost(const fontcut_request *request, const uint8_t *font, size_t font_length,
+                            fontcut_losses *losses);
 
 /* Writes the glyphs that a file keeps as a cut of a fontcut_kind to the front of `out`, ascending: .notdef, the glyphs
  * of its characters, in all but full cuts those that have an outline, metrics of their own or, for FONTCUT_VARIABLE,

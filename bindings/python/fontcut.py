@@ -55,7 +55,6 @@ are safe on all bytes, keep no state, and let other threads run while they work.
 """
 from __future__ import annotations
 
-import bisect
 import contextlib
 import ctypes
 import functools
@@ -67,12 +66,12 @@ import unicodedata
 import warnings
 from enum import Enum
 from mmap import mmap
-from typing import (TYPE_CHECKING, Callable, Iterable, Iterator, List, Literal, NamedTuple, Optional, Sequence, Tuple,
+from typing import (TYPE_CHECKING, Callable, Iterable, List, Literal, NamedTuple, Optional, Sequence, Tuple,
                     Union, cast)
 
-__all__ = ["Font", "FontcutError", "FontcutWarning", "Form", "Info", "LibraryMissing", "NoGlyph", "Range", "Refused",
-           "advances", "belongs", "check", "closure", "codes", "cut", "cut_size", "form", "glyphs", "info", "is_cut",
-           "join", "kept_glyphs", "metrics", "missing", "needed", "ranges", "slices", "unshaped"]
+__all__ = ["Font", "FontcutError", "FontcutWarning", "Form", "Info", "LibraryMissing", "Losses", "NoGlyph", "Range",
+           "Refused", "advances", "belongs", "check", "closure", "codes", "cut", "cut_size", "form", "glyphs", "info",
+           "is_cut", "join", "kept_glyphs", "lost", "metrics", "missing", "needed", "ranges", "slices", "unshaped"]
 
 __version__ = "0.11.0"
 
@@ -87,9 +86,6 @@ _OF_TAGS, _OF_NUMBERS = (5, 6, 7, 21, 29), (12, 15, 17, 22, 23)
 _SMALL_ROOM, _NO_GLYPH, _NO_NUMBERS, _BAD_TEXT = 100, 102, 104, 106
 _CLOSES, _CHECKED = 1, 2  # the flags of a request
 _LAST_CODE, _MOST_GLYPHS = 0x10FFFF, 0xFFFF
-_JOINERS = 0x200C, 0x200D
-# How many code points are looked up in a font one by one.
-_FEW_CODES = 4096
 _KINDS = {"full": 0, "lean": 1, "layout": 2, "variable": 3}
 # The kinds whose cuts keep GSUB, so that their text is shaped.
 _SHAPED = (_KINDS["layout"], _KINDS["variable"])
@@ -119,6 +115,29 @@ class Info(NamedTuple):
     y_max: int
     ascender: int
     descender: int
+
+
+class Losses(NamedTuple):
+    """What a cut lacks or drops of what is wanted. A number of which nothing is said is 0.
+
+    missing         how many wanted characters the font does not map, but for spaces and characters that are not seen
+    scripts         how many scripts the font shapes and the cut does not, of those whose text cannot be read then
+    first_missing   the first of the missing code points
+    first_unshaped  the first wanted code point of these scripts
+    axes            how many axes the font has, if the cut has none
+    colours         the tag of the first table with colours, which cuts drop, or ""
+    sequence        the code point of a wanted variation sequence of the font, which cuts drop
+    selector        its selector
+    """
+
+    missing: int
+    scripts: int
+    first_missing: int
+    first_unshaped: int
+    axes: int
+    colours: str
+    sequence: int
+    selector: int
 
 
 class Form(Enum):
@@ -223,6 +242,11 @@ class _Info(ctypes.Structure):
     _fields_ = [(name, ctypes.c_int16 if at > 1 else ctypes.c_uint16) for at, name in enumerate(Info._fields)]
 
 
+class _Losses(ctypes.Structure):
+    colours: int
+    _fields_ = [(name, ctypes.c_uint32) for name in Losses._fields]
+
+
 # Room in memory, and a call that writes to it where it has so many bytes as the call needs.
 if TYPE_CHECKING:
     _Room = ctypes.Array[ctypes.c_char]  # Python 3.8 cannot evaluate it
@@ -233,7 +257,8 @@ _RANGES, _REQUEST = [ctypes.POINTER(_Range), ctypes.c_size_t], [ctypes.POINTER(_
 _KIND = _FLAGS = [ctypes.c_uint32]
 _CALLS = {"check": _FILE, "subset": _REQUEST + _FILE + _ROOM,
           "subsets": _REQUEST + [ctypes.c_size_t] + _FILE + _ROOM + _LIST, "closure": _REQUEST + _FILE + _ROOM,
-          "kept": _KIND + _FILE + _ROOM, "cut_form": _KIND + _FILE, "belongs": _KIND + _FILE + _FILE,
+          "lost": _REQUEST + _FILE + [ctypes.POINTER(_Losses)], "kept": _KIND + _FILE + _ROOM,
+          "cut_form": _KIND + _FILE, "belongs": _KIND + _FILE + _FILE,
           "join": _KIND + [ctypes.POINTER(_Bytes), ctypes.c_size_t] + _ROOM, "codes": _FILE + _RANGES,
           "glyphs": _FLAGS + _FILE + _LIST + _ROOM, "metrics": _FLAGS + _FILE + _LIST + _ROOM,
           "info": _FILE + [ctypes.POINTER(_Info)], "needed": _LIST + _RANGES, "ranges": _LIST + _RANGES,
@@ -297,6 +322,10 @@ def _text(answer: _Answer) -> str:
     return room.raw[:told.size].decode()
 
 
+def _tag(number: int) -> str:
+    return number.to_bytes(4, "big").decode("latin-1")
+
+
 def _done(answer: _Answer, several: bool = False) -> _Answer:
     """The answer of a call that is done; otherwise raises what it says."""
     if answer.status == 0:
@@ -305,7 +334,7 @@ def _done(answer: _Answer, several: bool = False) -> _Answer:
         raise MemoryError("fontcut: no memory")
     argument: Union[None, int, str] = None
     if answer.status in _OF_TAGS:
-        argument = answer.detail.to_bytes(4, "big").decode("latin-1")
+        argument = _tag(answer.detail)
     elif answer.status in _OF_NUMBERS:
         argument = answer.detail
     elif answer.status == _TOO_LARGE:
@@ -501,68 +530,45 @@ def _closed(file: _File, kind: int, ranges: Sequence[Range], numbers: Sequence[i
     return out[:_done(_taken(answer, numbers)).size]
 
 
-def _is_substituted(file: _File, ranges: Sequence[Range]) -> bool:
-    """Whether GSUB may substitute for the glyphs of some characters. It does not if it cannot be read."""
-    with contextlib.suppress(Refused):
-        return len(_closed(file, _KINDS["layout"], ranges, ())) > len(_closed(file, _KINDS["lean"], ranges, ()))
-    return False
+def _lost(font: Union[Bytes, Font], kind: int, ranges: Sequence[Range]) -> Losses:
+    """What a cut of a kind lacks or drops of the characters of ranges."""
+    file, found = _File(font), _Losses()
+    _done(_library().fontcut_lost(_request(file, kind, ranges, ()), file.at, file.length, found))
+    numbers = Losses(*(getattr(found, name) for name in Losses._fields))
+    return numbers._replace(colours=_tag(found.colours).strip() if found.colours else "")
 
 
-def joining(codes: Sequence[int]) -> Iterator[int]:
-    """Those of some code points that joiners are used with, as letters are that join or change places: a text of them
-    needs joiners."""
-    text = " ".join(chr(code) for code in codes if code not in _JOINERS and not 0xD800 <= code <= 0xDFFF)
-    if not any(first <= _JOINERS[0] <= last for first, last in _needed(text)):
-        return
-    half = len(codes) // 2
-    for some in (codes[:half], codes[half:]) if half else ():
-        yield from joining(some)
-    if not half:
-        yield from codes
-
-
-def _mapped(font: Union[Bytes, Font], ranges: Sequence[Range]) -> List[int]:
-    """The code points of ranges that a font maps."""
-    if sum(last - first + 1 for first, last in ranges) > _FEW_CODES:
-        lasts = [last for _, last in ranges]
-        every = (code for first, last in codes(font) for code in range(first, last + 1) if code <= lasts[-1])
-        return [code for code in every if ranges[bisect.bisect_left(lasts, code)].first <= code]
-    few = [code for first, last in ranges for code in range(first, last + 1)]
-    return [code for code, glyph in zip(few, glyphs(font, few)) if glyph]
-
-
-def _unshaped(font: Union[Bytes, Font], kind: int, ranges: Sequence[Range]) -> Optional[str]:
-    """The first character of some ranges that a cut of a kind does not shape, and its font does."""
-    found = [] if kind in _SHAPED else list(joining(_mapped(font, ranges)))
-    file = _File(font)
-    if not found or not _is_substituted(file, [Range(code, code) for code in found]):
-        return None
-    letters = [code for code in found if unicodedata.category(chr(code)).startswith("L")][:16]
-    shaped = (code for code in letters if _is_substituted(file, [Range(code, code)]))
-    return chr(next(shaped, (letters or found)[0]))
+def lost(font: Union[Bytes, Font], wanted: Codes, *, kind: Optional[str] = None, exactly: bool = False) -> Losses:
+    """What the cut of a font for some characters, of a kind, lacks or drops of what they need, as the program says it.
+    The cut is not made. Raises `Refused`."""
+    number = _kind(kind)
+    return _lost(font, number, _wanted(wanted, number, exactly))
 
 
 def unshaped(font: Union[Bytes, Font], wanted: Codes, *, kind: str = "lean") -> Optional[str]:
-    """The first of some characters that a font shapes, and its cut of a kind does not, or None: a letter that joins
-    with others or changes its place by GSUB, which full and lean cuts drop. Letters of scripts that are shaped by GPOS
-    alone, as Thai and Hebrew are, do not count. Raises `Refused`."""
-    return _unshaped(font, _kind(kind), _ranges(wanted))
+    """The first of some characters that a font shapes, and its cut of a kind does not, or None: one of a script whose
+    text cannot be read where nothing shapes it, as Arabic or Devanagari. Raises `Refused`."""
+    first = _lost(font, _kind(kind), _ranges(wanted)).first_unshaped
+    return chr(first) if first else None
 
 
 def _warn_unshaped(font: Union[Bytes, Font], kind: int, ranges: Sequence[Range]) -> None:
     """Warns the caller of `cut` or `slices` of a character that the cut does not shape. Out of memory, it does not."""
-    letter = None
-    with contextlib.suppress(MemoryError):
-        letter = _unshaped(font, kind, ranges)
-    if letter is not None:
+    first = 0
+    if kind not in _SHAPED:
+        with contextlib.suppress(MemoryError):
+            first = _lost(font, kind, ranges).first_unshaped
+    if first:
         name = next(name for name, number in _KINDS.items() if number == kind)
-        warnings.warn(f'the font shapes {script_of(letter)}, which a {name} cut drops: write kind="layout"',
+        warnings.warn(f'the font shapes {script_of(chr(first))}, which a {name} cut drops: write kind="layout"',
                       FontcutWarning, stacklevel=3)
 
 
 def script_of(letter: str) -> str:
-    """What messages call the script of a letter, with which its name in Unicode begins."""
-    return unicodedata.name(letter, f"U+{ord(letter):04X}").partition(" LETTER ")[0].title()
+    """What messages call the script of a character, with which its name in Unicode begins."""
+    name = unicodedata.name(letter, f"U+{ord(letter):04X}")
+    script, *rest = re.split(" (?:LETTER|CHARACTER|SIGN|INDEPENDENT|VOWEL|CONSONANT|DIGIT|MARK) ", name)
+    return (script if rest else re.split("[- ]", name)[0]).title()
 
 
 def cut_size(font: Union[Bytes, Font], wanted: Codes, *, kind: Optional[str] = None,

@@ -686,10 +686,16 @@ class Asking(unittest.TestCase):
             with self.assertRaisesRegex(ValueError, rf"item {place} is the lone surrogate U\+"):
                 fontcut.needed(text)
 
-    def test_letters_that_joiners_are_used_with(self) -> None:
-        self.assertEqual(list(fontcut.joining([0x41, 0x628, 0x200C, 0x200D, 0xD800, 0x5D0, 0x915, 0x301, 0x1820])),
-                         [0x628, 0x915, 0x1820])
-        self.assertEqual(list(fontcut.joining([])), [])
+    @unittest.skipUnless(os.path.exists(DEJAVU), "Debian's package fonts-dejavu-core is not installed")
+    def test_what_a_cut_lacks_or_drops(self) -> None:
+        with open(DEJAVU, "rb") as file:
+            font = file.read()
+        text = "A \u0915\u4e00\u0628\u05d0\u0627\u200b"
+        self.assertEqual(fontcut.lost(font, text), fontcut.Losses(2, 1, 0x915, 0x627, 0, "", 0, 0))
+        self.assertEqual(fontcut.lost(font, text, kind="layout"), fontcut.Losses(2, 0, 0x915, 0, 0, "", 0, 0))
+        self.assertEqual(fontcut.lost(font, ""), fontcut.Losses(0, 0, 0, 0, 0, "", 0, 0))
+        with self.assertRaises(fontcut.Refused):
+            fontcut.lost(b"", text)
 
     def test_refusals_are_those_of_check(self) -> None:
         calls: List[Callable[[bytes], object]] = [

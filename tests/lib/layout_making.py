@@ -13,6 +13,9 @@ from layout_reading import LAYOUT
 from random_fonts import outlines_of
 from worked_cuts import base6_tables
 
+# A table of layout of one script, the one for all.
+ALL_SCRIPTS = bytes.fromhex("00010000 000A 0000 0000 0001") + b"DFLT\0\0"
+
 Subtable = tuple[int, bytes]  # its lookup type and its bytes
 
 
@@ -219,3 +222,19 @@ def with_layout(font: bytes, layout: Mapping[bytes, bytes]) -> bytes:
     """A font with these tables of layout and no others."""
     made: bytes = with_tables(font, {**dict.fromkeys(LAYOUT), **layout})
     return made
+
+
+def font_of_sequences() -> bytes:
+    """A font that maps A, B, Arabic beh and Thai ko kai, with the variation sequences of A and U+FE00, which has the
+    glyph that A has, and of B and U+E0100, which has another one."""
+    known = [(0x41, 0x42, 1), (0x628, 0x628, 3), (0xE01, 0xE01, 4)]
+    mapped = b"".join(struct.pack(">III", *group) for group in known)
+    groups = struct.pack(">HHIII", 12, 0, 16 + len(mapped), 0, len(known)) + mapped
+    default = struct.pack(">II", 1, 0x41 << 8)
+    other = struct.pack(">I", 1) + bytes.fromhex("000042 0005")
+    header = 10 + 2 * 11
+    sequences = struct.pack(">HII", 14, header + len(default) + len(other), 2)
+    sequences += bytes.fromhex("00FE00") + struct.pack(">II", header, 0)
+    sequences += bytes.fromhex("0E0100") + struct.pack(">II", 0, header + len(default)) + default + other
+    cmap = struct.pack(">HHHHIHHIHHI", 0, 3, 0, 4, 28, 0, 5, 28 + len(groups), 3, 10, 28) + groups + sequences
+    return letters({b"cmap": cmap, b"GPOS": ALL_SCRIPTS})

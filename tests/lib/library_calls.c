@@ -426,6 +426,20 @@ static void do_closure(int is_first, char **words, int count)
     free_question(asked);
 }
 
+static void do_lost(int is_first, char **words, int count)
+{
+    question *asked = read_question(words[1], words + 3, count - 3);
+    uint8_t *out = guarded(sizeof(fontcut_losses));
+    fontcut_answer answer =
+        fontcut_lost(asked->requests, asked->font.at, asked->font.length, (fontcut_losses *)(void *)out);
+    size_t written = answer.status ? 0 : sizeof(fontcut_losses);
+    say(is_first, answer, is_untouched(out, written, sizeof(fontcut_losses)));
+    if (is_first)
+        write_file(words[2], out, written);
+    free(out - GUARD);
+    free_question(asked);
+}
+
 static void do_kept(int is_first, char **words)
 {
     file font = read_file(words[2]);
@@ -483,7 +497,9 @@ static int answers_of_lookups(file font, int is_null, fontcut_answer *answers)
     const uint32_t *codes = (const uint32_t *)address(is_null), flags = is_accepted(font) ? FONTCUT_CHECKED : 0;
     uint16_t *glyphs = (uint16_t *)address(is_null);
     fontcut_metric *metrics = (fontcut_metric *)address(is_null);
+    const fontcut_request request = {sizeof request, FONTCUT_FULL, 0, NULL, 0, NULL, 0};
     fontcut_font_info info;
+    fontcut_losses losses;
     answers[0] = fontcut_check(none, 0);
     answers[1] = fontcut_codes(font.at, font.length, ranges, 0);
     answers[2] = fontcut_glyphs(0, font.at, font.length, codes, 0, glyphs, 0);
@@ -494,7 +510,8 @@ static int answers_of_lookups(file font, int is_null, fontcut_answer *answers)
     answers[7] = fontcut_ranges(none, 0, ranges, 0);
     answers[8] = fontcut_glyphs(flags, font.at, font.length, codes, 0, glyphs, 0);
     answers[9] = fontcut_metrics(flags, font.at, font.length, glyphs, 0, metrics, 0);
-    return 10;
+    answers[10] = fontcut_lost(&request, none, 0, &losses);
+    return 11;
 }
 
 static void do_nothing(int is_first, char **words)
@@ -563,6 +580,8 @@ static void do_line(int is_first, char **words, int count)
         do_cuts(is_first, words, count);
     else if (!strcmp(words[0], "closure"))
         do_closure(is_first, words, count);
+    else if (!strcmp(words[0], "lost"))
+        do_lost(is_first, words, count);
     else if (!strcmp(words[0], "kept"))
         do_kept(is_first, words);
     else if (!strcmp(words[0], "join"))

@@ -55,7 +55,7 @@ static const char *const NAMES[] = {
     OF_KINDS_OF("closure"),        OF_KINDS_OF("kept"),             OF_KINDS_OF("belongs"),
     OF_KINDS_OF("cut_form"),       OF_KINDS_OF("join"),
     "codes", "check", "glyphs", "metrics", "info", "refusal_text", "checked_glyphs", "checked_metrics", "needed",
-    "ranges",
+    "ranges", "lost",
 };
 enum { CALLS = sizeof NAMES / sizeof *NAMES, BY_REQUEST = 6 * KINDS, OF_KINDS = 11 * KINDS };
 
@@ -104,6 +104,7 @@ static fontcut_answer do_call(int call)
 {
     const fontcut_bytes font = files[0];
     const fontcut_answer told = {FONTCUT_BAD_GLYPH, 7, 0, 0};
+    const fontcut_request wanted = {sizeof wanted, FONTCUT_LEAN, 0, RANGES, 3, GLYPHS, 3};
     const uint32_t flags = call - OF_KINDS < 6 ? 0 : FONTCUT_CHECKED;
     fontcut_range *ranges = (fontcut_range *)(void *)room;
     if (call < BY_REQUEST)
@@ -128,8 +129,10 @@ static fontcut_answer do_call(int call)
         return fontcut_refusal_text(told, room, ROOM);
     case 8:
         return fontcut_needed((const uint8_t *)TEXT, sizeof TEXT - 1, ranges, ROOM / sizeof *ranges);
-    default:
+    case 9:
         return fontcut_ranges((const uint8_t *)LIST, sizeof LIST - 1, ranges, ROOM / sizeof *ranges);
+    default:
+        return fontcut_lost(&wanted, font.at, font.length, (fontcut_losses *)(void *)room);
     }
 }
 

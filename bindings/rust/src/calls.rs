@@ -1,5 +1,5 @@
 //! The calls of `fontcut.h`, as the header declares them.
-use crate::numbers::{Info, Metric};
+use crate::numbers::{Info, Losses, Metric};
 use crate::{Kind, Ranges};
 use std::marker::PhantomData;
 
@@ -96,6 +96,12 @@ extern "C" {
         font_length: usize,
         out: *mut u16,
         room: usize,
+    ) -> Answer;
+    pub(crate) fn fontcut_lost(
+        request: *const Request<'_>,
+        font: *const u8,
+        font_length: usize,
+        losses: *mut Losses,
     ) -> Answer;
     pub(crate) fn fontcut_kept(
         kind: u32,

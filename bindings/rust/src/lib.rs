@@ -35,7 +35,7 @@ pub use cut::Cut;
 pub use error::{Argument, Error};
 pub use exact::Wanted;
 pub use needed::needed;
-pub use numbers::{Info, Metric, NoGlyph};
+pub use numbers::{Info, Losses, Metric, NoGlyph};
 pub use ranges::Ranges;
 
 use calls::{filled, length, Answer, Bytes, Request, CHECKED, CLOSES, DONE, NO_GLYPH, SMALL_ROOM};

@@ -1,11 +1,7 @@
 //! The characters that a text needs: its own, and those that a shaper takes for them or puts in beside them.
 //! docs/FORMAT.md has the table.
-use crate::calls::{filled, fontcut_needed, NO_MEMORY};
-use crate::{Cut, Error, Font, Kind, Ranges, Wanted};
-
-/// What stands under a mark that has no letter.
-const DOTTED_CIRCLE: u32 = 0x25CC;
-const JOINERS: [u32; 2] = [0x200C, 0x200D];
+use crate::calls::{filled, fontcut_lost, fontcut_needed, Request, DONE};
+use crate::{Cut, Error, Font, Kind, Losses, Ranges};
 
 /// The characters that a text needs: its own, and those that a shaper takes for them or puts in beside them. A layout
 /// or variable cut for these shapes the text as the whole font does. [`Font::cut_text`] wants them.
@@ -61,9 +57,38 @@ impl Font<'_> {
         self.cut(kind, &wanted)
     }
 
-    /// The first of the wanted characters that the font shapes and its cut of a kind does not, if there is one: a letter
-    /// that joins with others or changes its place by `GSUB`, which full and lean cuts drop. Letters of scripts that
-    /// are shaped by `GPOS` alone, as Thai and Hebrew are, do not count. No call warns of it: ask where a user is told.
+    /// What a cut of a kind for the wanted characters lacks or drops of what they need, as the program says it. The cut is
+    /// not made. No call warns of it: ask where a user is told.
+    ///
+    /// # Errors
+    ///
+    /// 16 if out of memory.
+    ///
+    /// ```
+    /// # fn main() -> Result<(), Box<dyn std::error::Error>> {
+    /// # let path = "/usr/share/fonts/truetype/dejavu/DejaVuSans.ttf";
+    /// # let file = match std::fs::read(path) { Ok(file) => file, Err(_) => return Ok(()) };
+    /// use fontcut::{Font, Kind};
+    ///
+    /// let font = Font::new(&file)?;
+    /// let lost = font.lost(Kind::Lean, &"Hello \u{628}\u{627}".chars().collect())?;
+    /// assert_eq!((1, 0x627), (lost.scripts, lost.first_unshaped));
+    /// # Ok(())
+    /// # }
+    /// ```
+    pub fn lost(&self, kind: Kind, wanted: &Ranges) -> Result<Losses, Error> {
+        let (request, mut losses) = (Request::new(kind, 0, wanted, &[]), Losses::default());
+        // SAFETY: the font was accepted, and the call reads it and the request, and writes to `losses` alone.
+        let answer =
+            unsafe { fontcut_lost(&request, self.bytes.as_ptr(), self.bytes.len(), &mut losses) };
+        match answer.status {
+            DONE => Ok(losses),
+            _ => Err(Error::of_one_file(answer)),
+        }
+    }
+
+    /// The first of the wanted characters that the font shapes and its cut of a kind does not, if there is one: one of a
+    /// script whose text cannot be read where nothing shapes it, as Arabic or Devanagari.
     ///
     /// # Errors
     ///
@@ -83,63 +108,7 @@ impl Font<'_> {
     /// # }
     /// ```
     pub fn unshaped(&self, kind: Kind, wanted: &Ranges) -> Result<Option<char>, Error> {
-        if matches!(kind, Kind::Layout | Kind::Variable) {
-            return Ok(None);
-        }
-        let codes: Vec<u32> = wanted.iter().flatten().collect();
-        let glyphs = self.glyphs(codes.iter().copied());
-        let mapped = codes
-            .into_iter()
-            .zip(glyphs)
-            .filter(|&(_, glyph)| glyph != 0);
-        let letters = mapped.filter_map(|(code, _)| char::from_u32(code));
-        let mut joined = Vec::new();
-        add_joining(&letters.collect::<Vec<_>>(), &mut joined)?;
-        if joined.is_empty() || !self.is_substituted(&joined)? {
-            return Ok(None);
-        }
-        for &letter in &joined {
-            let is_mark = needed(letter.encode_utf8(&mut [0; 4]))?.contains(DOTTED_CIRCLE);
-            if !is_mark && self.is_substituted(&[letter])? {
-                return Ok(Some(letter));
-            }
-        }
-        Ok(joined.first().copied())
+        let first = self.lost(kind, wanted)?.first_unshaped;
+        Ok(char::from_u32(first).filter(|_| first != 0))
     }
-
-    /// Whether `GSUB` may put other glyphs for those of some characters. It does not if it cannot be read.
-    fn is_substituted(&self, letters: &[char]) -> Result<bool, Error> {
-        let codes = letters.iter().copied().collect();
-        let wanted = Wanted {
-            codes,
-            ..Wanted::default()
-        };
-        match self.closure(Kind::Layout, &wanted) {
-            Ok(shaped) => Ok(shaped.len() > self.closure(Kind::Lean, &wanted)?.len()),
-            Err(error) if error.number() == NO_MEMORY => Err(error),
-            Err(_) => Ok(false),
-        }
-    }
-}
-
-/// Adds those of some characters that joiners are used with, but for joiners: letters that join or change places. A text
-/// of them needs joiners.
-fn add_joining(letters: &[char], found: &mut Vec<char>) -> Result<(), Error> {
-    let mut text = String::new();
-    for &letter in letters
-        .iter()
-        .filter(|&&it| !JOINERS.contains(&u32::from(it)))
-    {
-        text.extend([letter, ' ']);
-    }
-    if !needed(&text)?.contains(JOINERS[0]) {
-        return Ok(());
-    }
-    if letters.len() == 1 {
-        found.extend(letters);
-        return Ok(());
-    }
-    let (some, others) = letters.split_at(letters.len() / 2);
-    add_joining(some, found)?;
-    add_joining(others, found)
 }

@@ -34,6 +34,28 @@ pub struct Info {
     pub descender: i16,
 }
 
+/// What a cut lacks or drops of what is wanted of a font. A number of which nothing is said is 0.
+#[repr(C)]
+#[derive(Clone, Copy, Debug, Default, PartialEq, Eq, Hash)]
+pub struct Losses {
+    /// How many wanted characters the font does not map, but for spaces and characters that are not seen.
+    pub missing: u32,
+    /// How many scripts the font shapes and the cut does not, of those whose text cannot be read then.
+    pub scripts: u32,
+    /// The first of the missing characters.
+    pub first_missing: u32,
+    /// The first wanted character of these scripts.
+    pub first_unshaped: u32,
+    /// How many axes the font has, if the cut has none.
+    pub axes: u32,
+    /// The tag of the first table with colours, which cuts drop: its four bytes as a number, the first one highest.
+    pub colours: u32,
+    /// The character of a wanted variation sequence of the font, which cuts drop.
+    pub sequence: u32,
+    /// Its selector.
+    pub selector: u32,
+}
+
 /// A number was given for a glyph that is none of the font's.
 #[derive(Clone, Copy, Debug, PartialEq, Eq, Hash)]
 pub struct NoGlyph {

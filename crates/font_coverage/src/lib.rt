@@ -6,6 +6,7 @@ mod changed_cuts;
 mod coverage_lines;
 mod cut_kinds;
 mod kept;
+mod loss_counts;
 mod lost;
 mod missing;
 mod sequences;
@@ -16,4 +17,5 @@ pub use crate::coverage_lines::{
 };
 pub use crate::cut_kinds::{cut_kind, is_cut_of, kind_of_cut};
 pub use crate::kept::{Kept, WantedCodes};
+pub use crate::loss_counts::{Losses, loss_counts};
 pub use crate::lost::{Asked, losses};

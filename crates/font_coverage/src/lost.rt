@@ -116,15 +116,28 @@ fn mapped_ranges(
     Ok(ranges)
 }
 
+/// Returns the ranges of wanted codes that a font maps, and that a cut of the kind may not shape as the font does.
+///
+/// # Errors
+/// `AllocError` if out of memory.
+pub(crate) fn unshaped_ranges(
+    alloc: Global,
+    font: &Font<'_>,
+    kind: Kind,
+    wanted: &Wanted,
+    takes_all: bool,
+) -> Result<Vec<(u32, u32)>, AllocError> {
+    let may_need = takes_all || wanted.row_from(next_complex(0)).is_some();
+    if keeps_layout(kind) || !may_need || !lists_scripts(font) {
+        return Ok(Vec::new(alloc));
+    }
+    mapped_ranges(alloc, font, wanted, takes_all)
+}
+
 // Returns the names of the scripts of wanted codes that a font shapes, and a cut of the kind does not.
 fn lost_scripts(alloc: Global, font: &Font<'_>, asked: Asked<'_>) -> Result<String, AllocError> {
-    let (wanted, says_more) = (asked.wanted, asked.says_more);
-    let may_need = says_more || wanted.row_from(next_complex(0)).is_some();
-    if keeps_layout(asked.kind) || !may_need || !lists_scripts(font) {
-        return Ok(String::new(alloc));
-    }
-    let ranges = mapped_ranges(alloc, font, wanted, says_more)?;
-    if says_more {
+    let ranges = unshaped_ranges(alloc, font, asked.kind, asked.wanted, asked.says_more)?;
+    if asked.says_more {
         shaped_scripts(alloc, font, &ranges)
     } else {
         complex_scripts(alloc, font, &ranges)
@@ -195,11 +208,11 @@ fn colours_of(tag: Tag) -> Option<&'static str> {
     }
 }
 
-// Returns the name of the first table of a font that has colours of glyphs.
-fn first_colours(font: &Font<'_>) -> Option<&'static str> {
+/// Returns the first table of a font that has colours of glyphs, and its name.
+pub(crate) fn first_colours(font: &Font<'_>) -> Option<(Tag, &'static str)> {
     for entry in font.tables().directory().dropped() {
-        if let Some(table) = colours_of(entry.tag) {
-            return Some(table);
+        if let Some(name) = colours_of(entry.tag) {
+            return Some((entry.tag, name));
         }
     }
     None
@@ -207,7 +220,7 @@ fn first_colours(font: &Font<'_>) -> Option<&'static str> {
 
 // Adds a line that says that a font has colours, where it has.
 fn add_colours(text: &mut String, font: &Font<'_>, name: &str) -> Result<(), AllocError> {
-    if let Some(table) = first_colours(font) {
+    if let Some((_, table)) = first_colours(font) {
         let name = Shown(name);
         write!(
             text,
@@ -233,7 +246,7 @@ pub(crate) fn add_never_kept(
             "sequence U+{code:X} U+{selector:X}: cuts drop variation sequences\n"
         )?;
     }
-    if let Some(table) = first_colours(font) {
+    if let Some((_, table)) = first_colours(font) {
         write!(text, "colours {table}: cuts drop colours\n")?;
     }
     Ok(())

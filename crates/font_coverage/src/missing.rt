@@ -45,9 +45,10 @@ fn is_unseen(code: u32) -> bool {
     false
 }
 
-// The characters that a font does not map: how many they are, and the names of the first of them.
+// The characters that a font does not map: how many they are, the first of them, and the names of some.
 struct Missing {
     count: u32,
+    first: u32,
     names: String,
 }
 
@@ -56,6 +57,7 @@ impl Drop for Missing {
     fn drop(self) {
         let Missing {
             count: _,
+            first: _,
             names: _names,
         } = self;
     }
@@ -76,6 +78,9 @@ impl Missing {
 
     // Counts a character.
     fn add(&mut self, code: u32) -> Result<(), AllocError> {
+        if self.count == 0 {
+            self.first = code;
+        }
         if self.count < NAMED {
             self.add_name(code)?;
         }
@@ -100,6 +105,7 @@ impl Missing {
         };
         let mut missing = Missing {
             count: 0,
+            first: 0,
             names: String::new(alloc),
         };
         let mut from: u32 = 0;
@@ -113,6 +119,20 @@ impl Missing {
         }
         Ok(missing)
     }
+}
+
+/// Returns the number of wanted characters that a font does not map, but for those that nobody misses, and the first of
+/// them, 0 where there is none.
+///
+/// # Errors
+/// `AllocError` if out of memory.
+pub(crate) fn missing_count(
+    alloc: Global,
+    font: &Font<'_>,
+    wanted: &Wanted,
+) -> Result<(u32, u32), AllocError> {
+    let missing = Missing::of(alloc, font, wanted)?;
+    Ok((missing.count, missing.first))
 }
 
 /// Adds a line that counts the characters of texts that a font does not map, and names the first of them, where there are

@@ -517,6 +517,54 @@ pub fn complex_scripts(
     Ok(names)
 }
 
+// Returns those scripts that are there and shaped, and cannot be read where nothing shapes them.
+fn shaped_complex(
+    alloc: Global,
+    scripts: &[Script],
+    listed: &Listed<'_>,
+) -> Result<Vec<Script>, AllocError> {
+    let counts_all = listed.has(ALL);
+    let mut shaped = Vec::new(alloc);
+    for (script, line) in COMPLEX.iter().zip(COMPLEX_LINES.lines()) {
+        let (tags, _) = line.split_once('|').unwrap_or((line, ""));
+        if scripts.contains(script) && (counts_all || listed.has_script(tags)) {
+            shaped.push(*script)?;
+        }
+    }
+    Ok(shaped)
+}
+
+// Returns the first letter of some scripts among the codes from the first to the last.
+fn first_letter(first: u32, last: u32, scripts: &[Script]) -> Option<u32> {
+    for letter in (first..=last).filter_map(char::from_u32) {
+        if scripts.contains(&Script::for_char(letter)) {
+            return Some(letter as u32);
+        }
+    }
+    None
+}
+
+/// Returns the number of those scripts that [`complex_scripts`] names, and the first of their letters in the ranges, 0
+/// where there is none.
+///
+/// # Errors
+/// `AllocError` if out of memory.
+pub fn complex_count(
+    alloc: Global,
+    font: &Font<'_>,
+    ranges: &[(u32, u32)],
+) -> Result<(u32, u32), AllocError> {
+    let scripts = scripts_of(alloc, ranges)?;
+    let shaped = shaped_complex(alloc, &scripts, &Listed::of(font))?;
+    let count = u32::try_from(shaped.len()).unwrap_or(u32::MAX);
+    for &(first, last) in ranges {
+        if let Some(letter) = first_letter(first, last, &shaped) {
+            return Ok((count, letter));
+        }
+    }
+    Ok((count, 0))
+}
+
 /// Returns the first code, not below a given one, that may be a letter of a script whose text cannot be read where nothing
 /// shapes it: those of ideographs, of Hangul and of ASCII are passed over.
 pub fn next_complex(code: u32) -> u32 {

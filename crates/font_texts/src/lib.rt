@@ -8,8 +8,10 @@ mod style_sheet;
 mod table_bytes;
 mod variations;
 
-pub use crate::font_scripts::{complex_scripts, lists_scripts, next_complex, shaped_scripts};
+pub use crate::font_scripts::{
+    complex_count, complex_scripts, lists_scripts, next_complex, shaped_scripts,
+};
 pub use crate::shown::{Shown, ShownWord, shown_character};
 pub use crate::style_sheet::add_rule;
 pub use crate::table_bytes::{long_at, number_at, table_named, three_at};
-pub use crate::variations::{add_variations, axis_tags};
+pub use crate::variations::{add_variations, axis_count, axis_tags};

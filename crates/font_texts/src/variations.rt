@@ -264,3 +264,16 @@ pub fn axis_tags(alloc: Global, font: &Font<'_>) -> Result<String, AllocError> {
     }
     Ok(text)
 }
+
+/// Returns the number of the axes of a font.
+pub fn axis_count(font: &Font<'_>) -> u32 {
+    let axes = Axes::of(table_named(font, Tag(*b"fvar")));
+    let mut count: u32 = 0;
+    for k in 0..axes.count {
+        if axes.axis(k).is_none() {
+            break;
+        }
+        count = count.saturating_add(1);
+    }
+    count
+}

@@ -1,9 +1,10 @@
 -- Ranges want the same codes in whatever order they come.
-use Rattle.std.proofs.Common.{◌≡◌, ℕ, Bool, true, false, ◌||◌, List, [], ◌∷◌, ap, refl, sym, ◌∙◌}
+use Rattle.std.proofs.Common.{◌≡◌, ℕ, Bool, true, false, ◌&&◌, ◌||◌, List, [], ◌∷◌, ◌++◌, All, ap, refl, sym, ◌∙◌, le_refl}
 use Rattle.std.specs.List.{list_any}
 use Rattle.std.proofs.Math.Path.{fun_ext}
 use Rattle.std.specs.List.Sorted.{IsPermutation}
 use Rattle.std.proofs.lemmas.List.Sorted.{list_any-IsPermutation}
+use Rattle.codes.proofs.AddingLemmas.{le_yes}
 use Rattle.codes.specs.Wanted.{codes_between, either, no_codes}
 use Rattle.codes.specs.declared.code_range.CodeRange.{CodeRange}
 use Rattle.fontcut_c.specs.Requests.{wanted_by, with_ranges}
@@ -29,3 +30,31 @@ wanted_by_sorted xs ys same =
     ∙ ap (λ b. b || no_codes c)
     (sym (list_any-IsPermutation (λ range. codes_between range.first range.last c) xs ys same))
     ∙ sym (with_ranges-any no_codes xs c))
+
+-- a range that is added at the end takes no code away, and adds its own
+with_ranges-more : (base : ℕ → Bool) (ranges : List CodeRange) (range : CodeRange) (c : ℕ)
+    → with_ranges base (ranges ++ range ∷ []) c
+    ≡ (codes_between range.first range.last c || with_ranges base ranges c)
+with_ranges-more base [] range c = refl
+with_ranges-more base (other ∷ ranges) range c =
+    with_ranges-more (either (codes_between other.first other.last) base) ranges range c
+
+or_true : (a : Bool) → (a || true) ≡ true
+or_true true = refl
+or_true false = refl
+
+between_itself : (c : ℕ) → codes_between c c c ≡ true
+between_itself c = ap (λ b. b && b) (le_yes c c (le_refl c))
+
+pub wanted_by_kept : (ranges : List CodeRange) (range : CodeRange) (c : ℕ) → wanted_by ranges c ≡ true
+    → wanted_by (ranges ++ range ∷ []) c ≡ true
+wanted_by_kept ranges range c is =
+    with_ranges-more no_codes ranges range c
+    ∙ ap (λ b. codes_between range.first range.last c || b) is
+    ∙ or_true (codes_between range.first range.last c)
+
+pub wanted_by_added : (ranges : List CodeRange) (c : ℕ)
+    → wanted_by (ranges ++ (record { first = c; last = c }) ∷ []) c ≡ true
+wanted_by_added ranges c =
+    with_ranges-more no_codes ranges (record { first = c; last = c }) c
+    ∙ ap (λ b. b || wanted_by ranges c) (between_itself c)

@@ -9,6 +9,7 @@ pub mod Info
 pub mod Inside
 pub mod Joining
 pub mod KindNumbers
+pub mod Lost
 pub mod Mapped
 pub mod Requests
 pub mod Text

@@ -14,6 +14,7 @@ mod glyphs;
 mod info;
 mod joining;
 mod kind;
+mod lost;
 mod many_cuts;
 mod mapped;
 mod refusal;
@@ -37,10 +38,11 @@ ghost use Rattle.fontcut_c.specs.Glyphs.{AnswersGlyphs, AnswersLookUp, AnswersMe
 ghost use Rattle.fontcut_c.specs.Info.{info_of};
 ghost use Rattle.fontcut_c.specs.Joining.{AnswersJoin, IsJoinInRoom};
 ghost use Rattle.fontcut_c.specs.KindNumbers.{AnswersInKind, HoldsInKind};
+ghost use Rattle.fontcut_c.specs.Lost.{AnswersLost};
 ghost use Rattle.fontcut_c.specs.Mapped.{AnswersCodes};
 ghost use Rattle.fontcut_c.specs.Requests.{AnswersRead, HoldsRead, asked_at, asked_by, has_checked, read, read_all, request_of};
 ghost use Rattle.fontcut_c.specs.Text.{AnswersText, NamesFile, answer_text, check_text, refusal_text};
-ghost use Rattle.fontcut_c.specs.TextRanges.{AnswersRanges};
+ghost use Rattle.fontcut_c.specs.TextRanges.{AnswersNeeded, AnswersRanges};
 
 pub use crate::answer::Answer;
 pub use crate::any_error::AnyError;
@@ -54,6 +56,7 @@ pub use crate::info::Info;
 use crate::info::info_in;
 use crate::joining::join_to;
 use crate::kind::kind_of_number;
+use crate::lost::lost_to;
 use crate::many_cuts::{RefusedAt, cuts_to};
 use crate::mapped::codes_to;
 pub use crate::refusal::Refusal;
@@ -62,6 +65,7 @@ use crate::requests::read_requests;
 use crate::text::text_to;
 use crate::text_ranges::{listed_to, needed_to};
 pub use codes::CodeRange;
+pub use font_coverage::Losses;
 use font_file::Font;
 use std::alloc::Global;
 
@@ -260,6 +264,26 @@ pub extern "C" fn fontcut_closure(
     }
 }
 
+/// Writes to `losses` what the cut that is asked for lacks or drops of what is wanted of a font. A refusal leaves `losses`
+/// as it was. Before all else come 105, 101 and 104 as for [`fontcut_subset`].
+#[unsafe(no_mangle)]
+pub extern "C" fn fontcut_lost(
+    alloc: Global,
+    request: &Request<'_>,
+    font: &[u8],
+    losses: &mut Losses,
+) -> Answer
+    requires { has_checked (asked_by request.now).flags ≡ true → font_fault font.now ≡ None }
+    ensures exact { let a = asked_by request.now in AnswersRead (read a) result
+        (λ k. AnswersLost font.now a losses.old losses.new result) }
+    ensures untouched { result.status ≢ 0 → losses.new ≡ losses.old }
+{
+    match request.read() {
+        Ok(kind) => answered(lost_to(alloc, kind, font, request, losses)),
+        Err(unread) => unread,
+    }
+}
+
 /// Writes the glyphs that a file keeps of itself as a cut of the kind that the number names to the front of
 /// `out`, ascending: .notdef, the glyphs of its characters, in all but full cuts those that have an outline,
 /// metrics of their own or variation data, and what these are made of. `size` counts glyphs. A file that is
@@ -321,7 +345,7 @@ pub extern "C" fn fontcut_info(font: &[u8], info: &mut Info) -> Answer
 /// the first such byte. A refusal leaves `out` as it was.
 #[unsafe(no_mangle)]
 pub extern "C" fn fontcut_needed(alloc: Global, text: &[u8], out: &mut [CodeRange]) -> Answer
-    ensures exact { AnswersRanges out.old out.new result }
+    ensures exact { AnswersNeeded text.now out.old out.new result }
     ensures untouched { result.status ≢ 0 → out.new ≡ out.old }
 {
     answered(needed_to(alloc, text, out))

@@ -1,10 +1,14 @@
 //! The codes that a text needs, and those that a list names, written to the caller's room.
-ghost use Rattle.std.specs.Prelude.{◌≡◌, IfErr, MatchResult, length};
-ghost use Rattle.fontcut_c.specs.Inside.{IsBadText};
-ghost use Rattle.fontcut_c.specs.TextRanges.{AreRangesInRoom, RefusesRanges};
+ghost use Rattle.std.specs.Prelude.{◌≡◌, IfErr, IfOk, MatchResult, chars, length};
+ghost use Rattle.codes.specs.Wanted.{member};
+ghost use Rattle.fontcut_c.specs.Answers.{IsInRoom};
+ghost use Rattle.fontcut_c.specs.Inside.{IsBadText, RefusesRoom};
+ghost use Rattle.fontcut_c.specs.Requests.{wanted_by};
+ghost use Rattle.fontcut_c.specs.TextRanges.{AreNeededInRoom, AreRangesInRoom, HaveCharacters, RefusesNeeded, RefusesRanges};
 
 use crate::refusal::Refusal;
-use codes::CodeRange;
+use crate::wanted_ranges::wanted_of;
+use codes::{CodeRange, Wanted};
 use std::alloc::{AllocError, Global};
 use std::io;
 use std::io::Read;
@@ -38,16 +42,15 @@ fn ranges_of(alloc: Global, codes: &CodeSet) -> Result<Vec<CodeRange>, AllocErro
     Ok(ranges)
 }
 
-// Writes the ranges of a set of codes to the front of room, and returns how many they are.
-fn put_ranges(alloc: Global, codes: &CodeSet, out: &mut [CodeRange]) -> Result<u64, Refusal>
-    ensures { MatchResult result (AreRangesInRoom out.old out.new)
-        (λ refusal. (out.new ≡ out.old) × RefusesRanges (length out.old) refusal) }
+// Writes ranges to the front of room, and returns how many they are.
+fn put_ranges(ranges: &[CodeRange], out: &mut [CodeRange]) -> Result<u64, Refusal>
+    ensures { MatchResult result (IsInRoom ranges.now out.old out.new)
+        (λ refusal. (out.new ≡ out.old) × RefusesRoom (length ranges.now) (length out.old) refusal) }
 {
-    let ranges = ranges_of(alloc, codes)?;
     if out.len() < ranges.len() {
         return Err(Refusal::SmallRoom(ranges.len() as u64));
     }
-    out[..ranges.len()].copy_from_slice(&ranges);
+    out[..ranges.len()].copy_from_slice(ranges);
     Ok(ranges.len() as u64)
 }
 
@@ -61,18 +64,50 @@ fn needed_by(alloc: Global, text: &str) -> Result<CodeSet, AllocError> {
     Ok(codes)
 }
 
+// Adds each character of a text to ranges that lack it. What a text needs has all of them, so this adds none: that is not
+// proved of `CodeSet`, and after this it need not be.
+fn add_characters(
+    wanted: &Wanted,
+    text: &str,
+    ranges: &mut Vec<CodeRange>,
+) -> Result<(), AllocError>
+    requires { member wanted.now ≡ wanted_by ranges.old.items }
+    ensures { IfOk result (λ _. HaveCharacters ranges.new.items (chars text.now)) }
+{
+    for letter in text.chars() {
+        let code = letter as u32;
+        if !wanted.contains(code) {
+            ranges.push(CodeRange {
+                first: code,
+                last: code,
+            })?;
+        }
+    }
+    Ok(())
+}
+
+// Returns the ranges of the characters of a text and of those that it needs beside them.
+fn needed_ranges(alloc: Global, text: &str) -> Result<Vec<CodeRange>, AllocError>
+    ensures { IfOk result (λ ranges. HaveCharacters ranges.items (chars text.now)) }
+{
+    let mut ranges = ranges_of(alloc, &needed_by(alloc, text)?)?;
+    let wanted = wanted_of(alloc, &ranges).map_err(|_| AllocError)?;
+    add_characters(&wanted, text, &mut ranges)?;
+    Ok(ranges)
+}
+
 /// Writes the characters of a text, and those that it needs beside them, to the front of room, as ascending ranges that
 /// do not touch, and returns how many they are.
 pub(crate) fn needed_to(alloc: Global, text: &[u8], out: &mut [CodeRange]) -> Result<u64, Refusal>
-    ensures { MatchResult result (AreRangesInRoom out.old out.new)
-        (λ refusal. (out.new ≡ out.old) × RefusesRanges (length out.old) refusal) }
+    ensures { MatchResult result (AreNeededInRoom text.now out.old out.new)
+        (λ refusal. (out.new ≡ out.old) × RefusesNeeded text.now (length out.old) refusal) }
 {
     let text = match str::from_utf8(text) {
         Ok(text) => text,
         Err(error) => return Err(Refusal::BadText(error.valid_up_to())),
     };
-    let codes = needed_by(alloc, text)?;
-    put_ranges(alloc, &codes, out)
+    let ranges = needed_ranges(alloc, text)?;
+    put_ranges(&ranges, out)
 }
 
 // Returns how many bytes stand before the first that is not UTF-8.
@@ -120,6 +155,6 @@ pub(crate) fn listed_to(alloc: Global, list: &[u8], out: &mut [CodeRange]) -> Re
     ensures { MatchResult result (AreRangesInRoom out.old out.new)
         (λ refusal. (out.new ≡ out.old) × RefusesRanges (length out.old) refusal) }
 {
-    let codes = listed(alloc, list)?;
-    put_ranges(alloc, &codes, out)
+    let ranges = ranges_of(alloc, &listed(alloc, list)?)?;
+    put_ranges(&ranges, out)
 }
