@@ -40,6 +40,11 @@ def row_of(rows: list[Row], **wanted: str) -> Row:
     return next(row for row in rows if all(row[title] == cell for title, cell in wanted.items()))
 
 
+def first(cell: str) -> str:
+    """The first number of a cell."""
+    return cell.split(", ")[0]
+
+
 def last(cell: str) -> str:
     """The last number of a cell: of times the median, of bytes those as WOFF2."""
     return cell.split(", ")[-1]
@@ -82,7 +87,7 @@ def beside(table: Tables) -> str:
     sizes, pages = ascii_sizes(table), pages_of(table, "Arabic")
     slices = {row["way"]: row["seconds"] for row in rows_of(table("commands_slices"))}
     rows = [["beside other subsetters", "fontcut", "hb-subset", "pyftsubset"], *time_rows(table),
-            ["the same, ASCII as they are, bytes", *(sizes[way].split(", ")[0] for way in SIZED)],
+            ["the same, ASCII as they are, bytes", *(first(sizes[way]) for way in SIZED)],
             ["the same, ASCII as WOFF2, bytes", *(last(sizes[way]) for way in SIZED)],
             ["the same, 100 slices as WOFF2, seconds", slices["`fontcut-web slice`"], NOTHING,
              slices["`pyftsubset`, a call a slice"]],
@@ -100,9 +105,10 @@ def costs(table: Tables) -> list[str]:
     page = "Latin {}, Arabic {} (hb-subset {}, {}); {}: {} times hb-subset"
     return [*(page.format(latin[way], arabic[way], latin[OTHERS[0]], arabic[OTHERS[0]], pages, ratios[way])
               for way in (EXACT, CLOSED)),
-            f"10 documents: {merged['joined lean cuts']} in one font (hb-subset {merged['hb-subset each'].split(', ')[0]}"
-            " in ten)",
-            f"ASCII of LXGW WenKai: {last(sizes['lean cut'])} (hb-subset {last(sizes['hb-subset'])})"]
+            f"10 documents: {merged['joined lean cuts']} in one font "
+            f"(hb-subset {first(merged['hb-subset each'])} in ten)",
+            f"ASCII of LXGW WenKai: {last(sizes['lean cut'])} (hb-subset {last(sizes['hb-subset'])}), uncompressed "
+            f"{first(sizes['lean cut'])} ({first(sizes['hb-subset'])})"]
 
 
 def with_module_size(document: str, size: str) -> str:
