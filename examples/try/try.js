@@ -1,7 +1,7 @@
 // Cuts of a font for two texts, their join, and how the browser draws them. All of it happens in the page.
 
-import { Font, FontcutError, glyphs, init, join, subset, unshaped } from '../../bindings/web/fontcut.js';
-import { needed } from '../../bindings/web/needed.js';
+import { Font, FontcutError, glyphs, init, initTexts, join, needed, subset, unshaped }
+    from '../../bindings/web/fontcut.js';
 
 const SAMPLE = 'DejaVuSans.ttf';
 const SHAPED = ['layout', 'variable'];
@@ -144,6 +144,7 @@ for (const kind of ['dragover', 'dragleave', 'drop']) {
     });
 }
 
-await trying(async () => init(new URL('../../gen/fontcut.wasm', import.meta.url)));
+await trying(() => Promise.all([init(new URL('../../gen/fontcut.wasm', import.meta.url)),
+    initTexts(new URL('../../gen/fontcut_text.wasm', import.meta.url))]));
 await takeSample();
 document.body.dataset.ready = 'true';
