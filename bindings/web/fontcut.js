@@ -85,20 +85,17 @@ const within = (work) => new FontAreas(module).within(work);
 // The ranges of a text: in cuts that are to be shaped, with the characters that a shaper takes for it too.
 function rangesOfText(text, { kind, exactly = false }) {
     const isShaped = text && WITH_LINKS.includes(kind) && !exactly;
-    return isShaped ? rangesNeeded(text) : charactersOf(text).map((code) => [code, code]);
-}
-
-function pairsOf({ text, unicodes, gids }, how) {
-    if (text === undefined && unicodes === undefined && gids === undefined) {
-        throw new TypeError('fontcut: say what is wanted by text, unicodes or gids');
-    }
-    const listed = typeof unicodes === 'string' ? ranges(unicodes) : [...unicodes ?? []];
-    return [...listed.map((one) => typeof one === 'number' ? [one, one] : one), ...rangesOfText(text ?? '', how)];
+    return isShaped ? rangesNeeded(text) : merged(charactersOf(text).map((code) => [code, code]));
 }
 
 // The wanted codes as ascending ranges, of which none touches another.
-function rangesOf(wanted, how) {
-    const pairs = pairsOf(wanted, how);
+function rangesOf({ text, unicodes, gids }, how) {
+    if (text === undefined && unicodes === undefined && gids === undefined) {
+        throw new TypeError('fontcut: say what is wanted by text, unicodes or gids');
+    }
+    const listed = typeof unicodes === 'string' ? ranges(unicodes) : Array.from(unicodes ?? []);
+    const own = rangesOfText(text ?? '', how);
+    const pairs = [...listed.map((one) => typeof one === 'number' ? [one, one] : one), ...own];
     for (const [first, last] of pairs) {
         if (!(Number.isInteger(first) && Number.isInteger(last) && 0 <= first && first <= last && last <= LAST_CODE)) {
             throw new RangeError(`fontcut: not a range of code points: ${first} to ${last}`);

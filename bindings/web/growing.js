@@ -49,18 +49,13 @@ export class GrowingFont {
         return done;
     }
 
-    // The code points that a text needs, or has. A page may have lone surrogates, which no font draws.
-    async #codesOf(text) {
-        const own = text.replace(/\p{Surrogate}/gu, '');
-        if (!SHAPED.includes(this.#kind)) {
-            return [...new Set(charactersOf(own))];
-        }
-        await initTexts();
-        return codesIn(rangesNeeded(own));
-    }
-
     async #grow(text) {
-        const missing = (await this.#codesOf(text)).filter((code) => !this.#known.has(code));
+        const isShaped = SHAPED.includes(this.#kind), own = text.replace(/\p{Surrogate}/gu, '');
+        if (isShaped) {
+            await initTexts();
+        }
+        const codes = isShaped ? codesIn(rangesNeeded(own)) : [...new Set(charactersOf(own))];
+        const missing = codes.filter((code) => !this.#known.has(code));
         if (!missing.length) {
             return;
         }
