@@ -33,8 +33,7 @@ function lost(text, kind, cut) {
     const characters = [...new Set(text)].filter((one) => !/\s/.test(one));
     const found = characters.length > 0 ? glyphs(font, characters.join('')) : [];
     const missing = characters.filter((_, at) => found[at] === 0);
-    const tags = tagsOf(cut);
-    const dropped = tagsOf(bytes).filter((tag) => !tags.includes(tag));
+    const tags = tagsOf(cut), dropped = tagsOf(bytes).filter((tag) => !tags.includes(tag));
     const said = [], more = missing.length > NAMED ? ` and ${missing.length - NAMED} more` : '';
     if (missing.length > 0) {
         said.push(`The font itself has no ${missing.slice(0, NAMED).join(', ')}${more}.`);
