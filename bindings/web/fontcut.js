@@ -30,30 +30,28 @@ const BYTES_OF_INFO = 16, BYTES_OF_REQUEST = 48;
 // The flags of a request, and of a look-up.
 const CLOSES = 1, CHECKED = 2;
 
-const module = new Module('await init() first');
+const own = new Module('await init() first');
 
 /** Compiles the module, and returns it. With no source it is `fontcut.wasm` beside this file, compiled once. */
-export async function init(source) {
-    const compiled = await module.load(source, new URL('fontcut.wasm', import.meta.url));
-    module.exports;
-    return compiled;
+export function init(source) {
+    return own.load(source, () => new URL('fontcut.wasm', import.meta.url));
 }
 
 /** Frees all memory of the modules, which never shrinks otherwise. The next call makes a new instance. */
 export function release() {
-    module.release();
+    own.release();
     texts.release();
 }
 
 /** Limits the memory of each module, in bytes. A call that needs more throws a FontcutError with the number 16. */
 export function limit(bytes) {
-    module.limit(bytes);
+    own.limit(bytes);
     texts.limit(bytes);
 }
 
 /** How many bytes of memory the modules have, and how many of them are in use now. */
 export function memory() {
-    const [one, other] = [module.memory(), texts.memory()];
+    const [one, other] = [own.memory(), texts.memory()];
     return { bytes: one.bytes + other.bytes, inUse: one.inUse + other.inUse };
 }
 
@@ -80,7 +78,7 @@ class FontAreas extends Areas {
     }
 }
 
-const within = (work) => new FontAreas(module).within(work);
+const within = (work) => new FontAreas(own).within(work);
 
 // The ranges of a text: in cuts that are to be shaped, with the characters that a shaper takes for it too.
 function rangesOfText(text, { kind, exactly = false }) {
@@ -94,8 +92,8 @@ function rangesOf({ text, unicodes, gids }, how) {
         throw new TypeError('fontcut: say what is wanted by text, unicodes or gids');
     }
     const listed = typeof unicodes === 'string' ? ranges(unicodes) : Array.from(unicodes ?? []);
-    const own = rangesOfText(text ?? '', how);
-    const pairs = [...listed.map((one) => typeof one === 'number' ? [one, one] : one), ...own];
+    const listedPairs = listed.map((one) => typeof one === 'number' ? [one, one] : one);
+    const pairs = [...listedPairs, ...rangesOfText(text ?? '', how)];
     for (const [first, last] of pairs) {
         if (!(Number.isInteger(first) && Number.isInteger(last) && 0 <= first && first <= last && last <= LAST_CODE)) {
             throw new RangeError(`fontcut: not a range of code points: ${first} to ${last}`);
@@ -150,7 +148,7 @@ function requestIn(areas, font, wanted, kind, flags) {
 
 /** The version of the module, such as '0.11.0'. */
 export function version() {
-    const number = module.exports.fontcut_version();
+    const number = own.calls.fontcut_version();
     return `${number >> 16}.${number >> 8 & 255}.${number & 255}`;
 }
 
@@ -383,7 +381,7 @@ export class Font {
     #home; // the exports of the instance that it lies in
 
     constructor(data) {
-        const bytes = bytesOf(data), home = module.exports, at = home.fontcut_alloc(BigInt(Math.max(1, bytes.length)));
+        const bytes = bytesOf(data), home = own.calls, at = home.fontcut_alloc(BigInt(Math.max(1, bytes.length)));
         if (at === 0n) {
             throw new FontcutError(NO_MEMORY, 'no memory');
         }
@@ -399,7 +397,7 @@ export class Font {
 
     /** Frees its memory. No call takes it then. */
     free() {
-        if (module.has(this.#home)) {
+        if (own.has(this.#home)) {
             this.#home.fontcut_free(this.#at);
         }
         this.#home = undefined;
@@ -407,7 +405,7 @@ export class Font {
 
     /** @internal */
     place() {
-        if (!module.has(this.#home)) {
+        if (!own.has(this.#home)) {
             throw new Error('fontcut: the font was freed');
         }
         return [this.#at, this.#length];

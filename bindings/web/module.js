@@ -30,7 +30,7 @@ async function compiled(source) {
     return isTyped ? WebAssembly.compileStreaming(answer) : WebAssembly.compile(await answer.arrayBuffer());
 }
 
-/** A module: what is compiled, the exports of its one instance, and the limit of its memory as a 64-bit number. */
+/** A module: what is compiled, the calls of its one instance, and the limit of its memory as a 64-bit number. */
 export class Module {
     #advice;
     #compiled;
@@ -46,7 +46,7 @@ export class Module {
         return this.#compiled !== undefined;
     }
 
-    get exports() {
+    get calls() {
         if (!this.isLoaded) {
             throw new Error(`fontcut: ${this.#advice}`);
         }
@@ -57,17 +57,17 @@ export class Module {
         return this.#instance;
     }
 
-    /** Compiles it, of `own` once if there is no source, and returns it. */
-    async load(source, own) {
+    /** Compiles it, once of what lies at the address that a call returns if there is no source, and returns it. */
+    async load(source, addressOf) {
         if (source !== undefined || !this.isLoaded) {
-            const made = await compiled(await (source ?? own));
+            const made = await compiled(await (source ?? addressOf()));
             // Of calls at the same time with no source the first one's module stays, so that no instance is lost.
             if (source !== undefined || !this.isLoaded) {
                 this.#compiled = made;
                 this.release();
             }
         }
-        return this.#compiled;
+        return this.calls && this.#compiled;
     }
 
     /** Whether an instance is the one whose calls are made now. */
@@ -114,19 +114,19 @@ function argumentOf({ status, detail, size }) {
 /** The areas in the memory of a module of one call of this package. `leave` frees them. */
 export class Areas {
     #module;
-    #exports;
+    #calls;
     #held = [];
     #answer;
 
     constructor(module) {
         this.#module = module;
-        this.#exports = module.exports;
+        this.#calls = module.calls;
         this.#answer = this.room(BYTES_OF_ANSWER);
     }
 
     // The address of so many new bytes. Views are made anew after each, for a memory that grows detaches those before.
     room(length) {
-        const at = this.#exports.fontcut_alloc(BigInt(Math.max(1, length)));
+        const at = this.#calls.fontcut_alloc(BigInt(Math.max(1, length)));
         if (at === 0n) {
             throw new FontcutError(NO_MEMORY, 'no memory');
         }
@@ -144,25 +144,25 @@ export class Areas {
     // The numbers of a list, as the address and the count of items that a call takes.
     numbers(Kind, list, each = 1) {
         const at = this.room(list.length * Kind.BYTES_PER_ELEMENT);
-        new Kind(this.#exports.memory.buffer, Number(at), list.length).set(list);
+        new Kind(this.#calls.memory.buffer, Number(at), list.length).set(list);
         return [at, BigInt(list.length / each)];
     }
 
     bytes(at, length) {
-        return new Uint8Array(this.#exports.memory.buffer, Number(at), length);
+        return new Uint8Array(this.#calls.memory.buffer, Number(at), length);
     }
 
     view(at, length) {
-        return new DataView(this.#exports.memory.buffer, Number(at), length);
+        return new DataView(this.#calls.memory.buffer, Number(at), length);
     }
 
     // What a call of the module answers. If it traps, its memory may be half written, and is used no more.
     answer(name, ...given) {
         try {
-            this.#exports[`fontcut_${name}`](this.#answer, ...given);
+            this.#calls[`fontcut_${name}`](this.#answer, ...given);
         } catch (error) {
             this.#held = [];
-            if (this.#module.has(this.#exports)) {
+            if (this.#module.has(this.#calls)) {
                 this.#module.release();
             }
             throw error;
@@ -200,7 +200,7 @@ export class Areas {
     written(items, bytesOfItem, make, isOfSeveral = false) {
         let room = this.room(items * bytesOfItem), answer = make(room, BigInt(items));
         if (answer.status === SMALL_ROOM) {
-            this.#exports.fontcut_free(this.#held.pop());
+            this.#calls.fontcut_free(this.#held.pop());
             room = this.room(answer.size * bytesOfItem);
             answer = make(room, BigInt(answer.size));
         }
@@ -219,7 +219,7 @@ export class Areas {
 
     leave() {
         for (const at of this.#held.reverse()) {
-            this.#exports.fontcut_free(at);
+            this.#calls.fontcut_free(at);
         }
     }
 }

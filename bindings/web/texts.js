@@ -12,7 +12,7 @@ export const texts = new Module('await initTexts() first, for texts of layout an
  * once.
  */
 export function initTexts(source) {
-    return texts.load(source, new URL('fontcut_text.wasm', import.meta.url));
+    return texts.load(source, () => new URL('fontcut_text.wasm', import.meta.url));
 }
 
 // The ranges that a call writes for a text. `refused` throws what it says of what starts at a place of its bytes.
