@@ -12,7 +12,7 @@ const font = new Font(readFileSync(path)), files = words.slice(3, -2).map((name)
 const unicodes = ranges(readFileSync(listed, 'latin1'));
 
 const ways = [
-    { name: 'cut', call: () => subset(font, { unicodes, kind: 'lean' }), times: [], total: 0n },
+    { name: 'cut', call: () => subset(font, { unicodes, kind: 'lean', quiet: true }), times: [], total: 0n },
     { name: 'join', call: () => join(files, { kind: 'lean' }), times: [], total: 0n },
 ];
 const enough = BigInt(milliseconds) * 1000000n;
