@@ -61,8 +61,7 @@ def codes_of(name: str, path: str) -> list[int]:
     if name.endswith(ALL):
         return mapped_codes(Font(name, path, 0, 0))
     if name == SLICE:
-        words = [word.partition("-") for word in presets.web()["latin"].replace("U+", "").split()]
-        return [code for first, _, last in words for code in range(int(first, 16), int(last or first, 16) + 1)]
+        return [code for first, last in presets.web()["latin"] for code in range(first, last + 1)]
     texts = [text for text in TEXTS if text.startswith(TEXTS_OF[name])]
     need(f"{name}: the texts of the page are there", len(texts) == len(TEXTS_OF[name]))
     return sorted({ord(letter) for text in texts for letter in needed(text)})

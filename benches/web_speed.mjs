@@ -4,15 +4,15 @@ import { readFileSync } from 'node:fs';
 import { pathToFileURL } from 'node:url';
 
 const words = process.argv.slice(2);
-const [place, path, ranges] = words, [milliseconds, least] = words.slice(-2).map(Number);
-const { Font, init, join, subset } = await import(pathToFileURL(`${place}/fontcut.js`));
-await init();
+const [place, path, listed] = words, [milliseconds, least] = words.slice(-2).map(Number);
+const { Font, init, initTexts, join, ranges, subset } = await import(pathToFileURL(`${place}/fontcut.js`));
+await Promise.all([init(), initTexts()]);
 
 const font = new Font(readFileSync(path)), files = words.slice(3, -2).map((name) => readFileSync(name));
-const unicodes = readFileSync(ranges, 'latin1').trim().split('\n').join(',');
+const unicodes = ranges(readFileSync(listed, 'latin1'));
 
 const ways = [
-    { name: 'cut', call: () => subset(font, { unicodes, kind: 'lean' }), times: [], total: 0n },
+    { name: 'cut', call: () => subset(font, { unicodes, kind: 'lean', quiet: true }), times: [], total: 0n },
     { name: 'join', call: () => join(files, { kind: 'lean' }), times: [], total: 0n },
 ];
 const enough = BigInt(milliseconds) * 1000000n;

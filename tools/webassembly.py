@@ -1,4 +1,4 @@
-"""The module for browsers, made of the library's module of LLVM, with the memory of bindings/web/heap.c."""
+"""The modules for browsers, made of the library's module of LLVM, with the memory of bindings/web/heap.c."""
 from __future__ import annotations
 
 import os
@@ -22,8 +22,9 @@ LINK = ["-flavor", "wasm", "-mwasm64", "--no-entry", "--stack-first", "-z", "sta
 LOWER = ["--enable-memory64", "--enable-bulk-memory", "--enable-sign-ext", "--enable-nontrapping-float-to-int",
          "--enable-mutable-globals", "--memory64-lowering"]
 TABLE, ELEMENTS = 4, 9  # sections of a WebAssembly module
-# The calls whose tables of Unicode would make the module larger by half: bindings/web/needed.js does what they do.
-LEFT_OUT = "fontcut_needed", "fontcut_ranges"
+# The calls of fontcut_text.wasm; fontcut.wasm has all others of include/fontcut.h. Their tables of Unicode would make
+# that almost twice as long, and many pages need neither.
+OF_TEXTS = "fontcut_needed", "fontcut_ranges"
 
 
 def for_wasm(text: str) -> str:
@@ -42,13 +43,13 @@ def for_wasm(text: str) -> str:
     return ATTRIBUTES.sub("", text)
 
 
-def without_calls(text: str) -> str:
-    """A module of LLVM as text, in which the calls that are left out are of the module alone, so that it needs none."""
-    for name in LEFT_OUT:
-        text, count = re.subn(rf"^define (?=[^\n]*@{name}\()", "define internal ", text, flags=re.M)
-        if count != 1:
-            raise Failed(f"find the call {name} in the module")
-    return text
+def with_calls(text: str, of_texts: bool) -> str:
+    """A module of LLVM as text, in which the calls of the other module for browsers are internal, and so left out."""
+    calls = set(re.findall(r"^define (?!internal )[^\n]*?@(fontcut_\w+)\(", text, re.M))
+    if not calls.issuperset(OF_TEXTS):
+        raise Failed(f"find in the module: {' and '.join(OF_TEXTS)}")
+    others = "|".join(call for call in sorted(calls) if (call in OF_TEXTS) != of_texts)
+    return re.sub(rf"^define (?=[^\n]*@(?:{others})\()", "define internal ", text, flags=re.M)
 
 
 def number_at(data: bytes, at: int) -> tuple[int, int]:
@@ -79,20 +80,28 @@ def without_table(data: bytes) -> bytes:
     return kept
 
 
-def web_module(kit: str, room: str, native: str) -> bytes:
-    """The WebAssembly that is made of a module of LLVM and heap.c."""
-    tools, paths = f"{kit}/toolchain/bin", {name: os.path.join(room, name) for name in (
-        "native.ll", "wasm.ll", "module.o", "heap.o", "linked.wasm", "wide.wasm", "fontcut.wasm")}
+def web_modules(kit: str, room: str, native: str) -> dict[str, bytes]:
+    """The WebAssembly that is made of a module of LLVM and heap.c: the modules by their names."""
+    tools, paths = f"{kit}/toolchain/bin", {name: os.path.join(room, name) for name in ("native.ll", "heap.o")}
     run([f"{tools}/clang", f"--target={NATIVE}", "-x", "ir", native, "-S", "-emit-llvm", "-O0", "-Xclang",
          "-disable-llvm-passes", "-o", paths["native.ll"]])
-    with open(paths["native.ll"], encoding="utf-8") as text:
-        put(paths["wasm.ll"], without_calls(for_wasm(text.read())))
-    run([f"{tools}/clang", *CLANG, "-c", "-x", "ir", paths["wasm.ll"], "-o", paths["module.o"]])
     run([f"{tools}/clang", *CLANG, "-ffreestanding", "-nostdinc", "-Wall", "-Wextra", "-Werror", "-c",
          os.path.join(TOP, "bindings", "web", "heap.c"), "-o", paths["heap.o"]])
+    with open(paths["native.ll"], encoding="utf-8") as opened:
+        text = for_wasm(opened.read())
+    return {"fontcut.wasm": linked(tools, room, with_calls(text, False)),
+            "fontcut_text.wasm": linked(tools, room, with_calls(text, True))}
+
+
+def linked(tools: str, room: str, text: str) -> bytes:
+    """The WebAssembly that is made of a module of LLVM as text, and of the heap that was compiled into the room."""
+    paths = {name: os.path.join(room, name) for name in ("wasm.ll", "module.o", "heap.o", "linked.wasm", "wide.wasm",
+                                                         "made.wasm")}
+    put(paths["wasm.ll"], text)
+    run([f"{tools}/clang", *CLANG, "-c", "-x", "ir", paths["wasm.ll"], "-o", paths["module.o"]])
     run([f"{tools}/ld.lld", *LINK, "-o", paths["linked.wasm"], paths["module.o"], paths["heap.o"]])
-    with open(paths["linked.wasm"], "rb") as linked, open(paths["wide.wasm"], "wb") as out:
-        out.write(without_table(linked.read()))
-    run(["wasm-opt", *LOWER, paths["wide.wasm"], "-o", paths["fontcut.wasm"]])
-    with open(paths["fontcut.wasm"], "rb") as made:
+    with open(paths["linked.wasm"], "rb") as whole, open(paths["wide.wasm"], "wb") as out:
+        out.write(without_table(whole.read()))
+    run(["wasm-opt", *LOWER, paths["wide.wasm"], "-o", paths["made.wasm"]])
+    with open(paths["made.wasm"], "rb") as made:
         return made.read()

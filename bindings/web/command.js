@@ -5,10 +5,10 @@ import { chmodSync, closeSync, existsSync, lstatSync, mkdirSync, openSync, readF
     renameSync, rmSync, statSync, writeFileSync, writeSync } from 'node:fs';
 import { basename, dirname, join as pathOf, resolve } from 'node:path';
 import { parseArgs } from 'node:util';
-import { belongs, check, codes, cuts, cutForm, FontcutError, glyphs, init, join, metrics, ranges, subset, version }
-    from './fontcut.js';
-import { KINDS, LAYOUT_TABLES, NO_GLYPH, SHAPED, kindWhere, rangeWord } from './kinds.js';
-import { needed } from './needed.js';
+import { belongs, check, codes, cuts, cutForm, FontcutError, glyphs, init, initTexts, join, metrics, needed, ranges,
+    subset, version } from './fontcut.js';
+import { KINDS, LAYOUT_TABLES, NO_GLYPH, SHAPED, charactersOf, codesIn, kindWhere, rangeWord, shared }
+    from './kinds.js';
 import { slices } from './slices.js';
 import { woff2 } from './woff2.js';
 
@@ -141,7 +141,7 @@ function codesOfTexts(given, kind) {
     const brings = SHAPED.includes(kind) && !given.exactly ? needed : (one) => one;
     const files = (given['text-file'] ?? []).map((path) => text(read(path), path)).filter(withoutControls);
     const wanted = [...(given.text ?? []).map(brings), ...files.map((one) => withoutControls(brings(one)))];
-    return wanted.flatMap((one) => Array.from(one, (letter) => letter.codePointAt(0)));
+    return wanted.flatMap(charactersOf);
 }
 
 function codesOfLists(given, words) {
@@ -200,15 +200,9 @@ function slicesOfFile(path, font) {
         if (name && !/^[A-Za-z0-9][A-Za-z0-9._-]*$/.test(name)) {
             throw new Failed(2, `${path}: line ${i + 1}: bad name ${name.slice(0, 40)}`);
         }
-        return name ? [{ name, unicodes: within(mapped, ranges(list)) }] : [];
+        const unicodes = name ? shared(mapped, ranges(list)).map((range) => rangeWord(range, 'U+')).join(', ') : '';
+        return name ? [{ name, unicodes }] : [];
     });
-}
-
-// What two lists of ranges in ascending order share, as words.
-function within(some, others) {
-    const shared = some.flatMap(([first, last]) =>
-        others.map(([from, to]) => [Math.max(first, from), Math.min(last, to)]));
-    return shared.filter(([first, last]) => first <= last).map((range) => rangeWord(range, 'U+')).join(', ');
 }
 
 // A text as a string of CSS.
@@ -392,7 +386,7 @@ function runCodes(given, words) {
         print(pairs.map((pair) => `${rangeWord(pair, 'U+')}\n`).join(''));
         return;
     }
-    const all = pairs.flatMap(([first, last]) => Array.from({ length: last - first + 1 }, (_, i) => first + i));
+    const all = codesIn(pairs);
     const numbers = glyphs(font, all), widths = metrics(font, numbers);
     print(all.map((code, i) => `${rangeWord([code, code], 'U+')} ${numbers[i]} ${widths[i].advance}\n`).join(''));
 }
@@ -410,7 +404,7 @@ async function statusOf(line) {
         print(HELP);
         return 0;
     }
-    await init();
+    await Promise.all([init(), initTexts()]);
     if (['--version', '-V'].includes(name)) {
         print(`fontcut ${version()}\n`);
         return 0;

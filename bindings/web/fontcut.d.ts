@@ -18,7 +18,8 @@ export interface OfKind {
 
 /**
  * The characters of a text, code points and ranges (or range words: 'U+20-7E, U+4??'), or both. In layout and variable
- * cuts a text brings all characters that `needed` returns for it, unless `exactly` is asked for.
+ * cuts a text brings all characters that `needed` returns for it, unless `exactly` is asked for. That and range words
+ * need `initTexts`.
  */
 export interface Characters {
     text?: string;
@@ -46,7 +47,7 @@ export interface Exactly {
 
 /**
  * A full or lean cut for characters alone may drop what shapes them, as `unshaped` says: then `console.warn` says so
- * once for each font, unless this is asked for.
+ * once for each font, if the module of texts is there, and unless this is asked for.
  */
 export interface Quiet {
     quiet?: boolean;
@@ -95,11 +96,16 @@ export type Source = string | URL | Response | BufferSource | WebAssembly.Module
 
 /** Compiles the module, and returns it; with no source it is `fontcut.wasm` beside `fontcut.js`, compiled once. */
 export function init(source?: Source | Promise<Source>): Promise<WebAssembly.Module>;
-/** Frees all memory of the module. Each Font is freed. */
+/**
+ * Compiles the module of texts, and returns it; with no source it is `fontcut_text.wasm` beside `fontcut.js`, compiled
+ * once. `ranges`, `needed`, `unshaped`, range words, and texts in layout and variable cuts need it.
+ */
+export function initTexts(source?: Source | Promise<Source>): Promise<WebAssembly.Module>;
+/** Frees all memory of both modules. Each Font is freed. */
 export function release(): void;
-/** Limits the memory of the module, in bytes. */
+/** Limits the memory of each module, in bytes. */
 export function limit(bytes: number): void;
-/** How many bytes of memory the module has, and how many of them are in use. */
+/** How many bytes of memory both modules have, and how many of them are in use. */
 export function memory(): { bytes: number; inUse: number };
 /** The version of the module, such as '0.11.0'. */
 export function version(): string;
@@ -140,6 +146,13 @@ export function join(cuts: Iterable<Bytes | Font>, options?: OfKind): Uint8Array
 export function cutForm(font: Bytes | Font, options?: OfKind): 'none' | 'current' | 'old';
 /** Whether a file is a cut of a font for some characters and glyphs: of a kind, or of any if none is named. */
 export function belongs(cut: Bytes | Font, font: Bytes | Font, options?: OfKind): boolean;
+/**
+ * The characters that a text needs, each once, in the order of their code points: its own, and those that a shaper
+ * takes for them or puts in beside them. A layout or variable cut for these shapes the text as the whole font does.
+ *
+ * @throws RangeError for a lone surrogate
+ */
+export function needed(text: string): string;
 /**
  * The code points that a list of ranges names, as ranges in ascending order that do not touch. It takes what the
  * program takes from `--codes-file`: U+41, U+41-5A, U+4??, all, a `unicode-range` of CSS, and comments after #.

@@ -1,155 +1,71 @@
 // Cuts of OpenType fonts with TrueType outlines for wanted characters, and joins of cuts, by fontcut.wasm.
 //
-//     import { init, subset, join } from './fontcut.js';
+//     import { init, initTexts, subset, join } from './fontcut.js';
 //     await init();                                                   // or init(url), init(bytes), init(module)
 //     const cut = subset(font, { text: 'Hello', kind: 'lean' });      // a Uint8Array
 //     const both = join([cut, other], { kind: 'lean' });              // the cut for the characters of both
 //     const drawn = subset(font, { gids: [43, 72], kind: 'lean' });   // glyphs by their numbers
+//     await initTexts();                                              // what the other two need
+//     const shaped = subset(font, { text: 'Hello', kind: 'layout' });
+//     const latin = subset(font, { unicodes: 'U+20-7E, U+4??', kind: 'lean' });
 //
 // A font is an ArrayBuffer or a view of one. Calls are synchronous: a worker keeps a long one off the page's thread.
-// Each call copies what it reads into the module's memory, and frees all that it took when it returns or throws.
+// Each call copies what it reads into a module's memory, and frees all that it took when it returns or throws.
 
-import { DONE, FontcutError, KINDS, NO_GLYPH, NO_MEMORY, NO_NUMBERS, NOTHING_TO_JOIN, OF_NUMBERS, OF_TAGS, SHAPED,
-    SMALL_ROOM, TOO_LARGE, kindWhere, rangeWord } from './kinds.js';
-import { joining, needed } from './needed.js';
+import { FontcutError, KINDS, NO_GLYPH, NO_MEMORY, SHAPED, SMALL_ROOM, charactersOf, codesIn, kindWhere, merged,
+    pairsIn, rangeWord, shared } from './kinds.js';
+import { Areas, Module, bytesOf } from './module.js';
+import { initTexts, needed, ranges, rangesNeeded, texts } from './texts.js';
 
-export { FontcutError };
+export { FontcutError, initTexts, needed, ranges };
 
 const LAST_CODE = 0x10FFFF;
+const JOINERS = [0x200C, 0x200D];
+const FEW_CODES = 4096; // that are looked up in a font one by one
 const MOST_GLYPHS = 0xFFFF; // of a font: no glyph has this number
 const WITH_LINKS = SHAPED.map((kind) => KINDS.indexOf(kind));
 const FORMS = ['none', 'current', 'old'];
 
-const BYTES_OF_ANSWER = 24, BYTES_OF_INFO = 16, BYTES_OF_REQUEST = 48, LONGEST_TEXT = 64;
+const BYTES_OF_INFO = 16, BYTES_OF_REQUEST = 48;
 // The flags of a request, and of a look-up.
 const CLOSES = 1, CHECKED = 2;
 
-// The compiled module, the exports of its one instance, and the limit of its memory as a 64-bit number.
-let module, instance, most = 2n ** 64n - 1n;
-
-function exportsOf() {
-    if (!module) {
-        throw new Error('fontcut: await init() first');
-    }
-    if (!instance) {
-        instance = new WebAssembly.Instance(module, {}).exports;
-        instance.fontcut_limit(most);
-    }
-    return instance;
-}
-
-async function readOfNode(url) {
-    const { readFile } = await import(/* webpackIgnore: true */ /* @vite-ignore */ 'node:fs/promises');
-    return readFile(new URL(url));
-}
-
-async function compiled(source) {
-    if (source instanceof WebAssembly.Module) {
-        return source;
-    }
-    if (ArrayBuffer.isView(source) || source instanceof ArrayBuffer) {
-        return WebAssembly.compile(source);
-    }
-    if (String(source).startsWith('file:') && globalThis.process?.versions?.node) {
-        return WebAssembly.compile(await readOfNode(source));
-    }
-    const isAnswer = typeof Response === 'function' && source instanceof Response;
-    const answer = isAnswer ? source : await fetch(source);
-    if (!answer.ok) {
-        throw new Error(`fontcut: ${answer.url} answers ${answer.status}`);
-    }
-    // A browser compiles while the bytes arrive only if the server names their type.
-    const isTyped = (answer.headers.get('content-type') ?? '').startsWith('application/wasm');
-    return isTyped ? WebAssembly.compileStreaming(answer) : WebAssembly.compile(await answer.arrayBuffer());
-}
+const own = new Module('await init() first');
 
 /** Compiles the module, and returns it. With no source it is `fontcut.wasm` beside this file, compiled once. */
-export async function init(source) {
-    if (source !== undefined || !module) {
-        const made = await compiled(await (source ?? new URL('fontcut.wasm', import.meta.url)));
-        // Of calls at the same time with no source the first one's module stays, so that no instance is lost.
-        if (source !== undefined || !module) {
-            module = made;
-            release();
-        }
-    }
-    exportsOf();
-    return module;
+export function init(source) {
+    return own.load(source, () => new URL('fontcut.wasm', import.meta.url));
 }
 
-/** Frees all memory of the module, which never shrinks otherwise. The next call makes a new instance. */
+/** Frees all memory of the modules, which never shrinks otherwise. The next call makes a new instance. */
 export function release() {
-    instance = undefined;
+    own.release();
+    texts.release();
 }
 
-/** Limits the memory of the module, in bytes. A call that needs more throws a FontcutError with the number 16. */
+/** Limits the memory of each module, in bytes. A call that needs more throws a FontcutError with the number 16. */
 export function limit(bytes) {
-    most = BigInt.asUintN(64, BigInt(bytes));
-    exportsOf().fontcut_limit(most);
+    own.limit(bytes);
+    texts.limit(bytes);
 }
 
-/** How many bytes of memory the module has, and how many of them are in use now. */
+/** How many bytes of memory the modules have, and how many of them are in use now. */
 export function memory() {
-    const { memory: own, fontcut_in_use: inUse } = exportsOf();
-    return { bytes: own.buffer.byteLength, inUse: Number(inUse()) };
+    const [one, other] = [own.memory(), texts.memory()];
+    return { bytes: one.bytes + other.bytes, inUse: one.inUse + other.inUse };
 }
 
-function bytesOf(data) {
-    if (data instanceof ArrayBuffer) {
-        return new Uint8Array(data);
-    }
-    if (!ArrayBuffer.isView(data)) {
-        throw new TypeError('fontcut: a font is an ArrayBuffer or a view of one');
-    }
-    return new Uint8Array(data.buffer, data.byteOffset, data.byteLength);
-}
-
-const tagOf = (number) => String.fromCharCode(number >>> 24, number >> 16 & 255, number >> 8 & 255, number & 255);
-
-function argumentOf({ status, detail, size }) {
-    if (OF_TAGS.includes(status)) {
-        return tagOf(detail);
-    }
-    return OF_NUMBERS.includes(status) ? detail : status === TOO_LARGE ? size : undefined;
-}
-
-/** The areas in the module's memory of one call of this file. `leave` frees them. */
-class Areas {
-    #exports = exportsOf();
-    #held = [];
-    #answer = this.room(BYTES_OF_ANSWER);
-
-    // The address of so many new bytes. Views are made anew after each, for a memory that grows detaches those before.
-    room(length) {
-        const at = this.#exports.fontcut_alloc(BigInt(Math.max(1, length)));
-        if (at === 0n) {
-            throw new FontcutError(NO_MEMORY, 'no memory');
-        }
-        this.#held.push(at);
-        return at;
-    }
-
+/** The areas of a call that is given fonts. */
+class FontAreas extends Areas {
     // A file, as the address and the length that a call takes.
     file(font) {
-        if (font instanceof Font) {
-            return font.place();
-        }
-        const bytes = bytesOf(font), at = this.room(bytes.length);
-        this.bytes(at, bytes.length).set(bytes);
-        return [at, BigInt(bytes.length)];
-    }
-
-    // The numbers of a list, as the address and the count of items that a call takes.
-    numbers(Kind, list, each = 1) {
-        const at = this.room(list.length * Kind.BYTES_PER_ELEMENT);
-        new Kind(this.#exports.memory.buffer, Number(at), list.length).set(list);
-        return [at, BigInt(list.length / each)];
+        return font instanceof Font ? font.place() : this.copy(bytesOf(font));
     }
 
     // Requests of a kind and with these flags, as the address and the count that a call takes.
     requests(kind, flags, wanted) {
         const lists = wanted.map(({ ranges, gids }) =>
-            [...this.numbers(Uint32Array, ranges, 2), ...this.numbers(Uint16Array, gids)]);
+            [...this.numbers(Uint32Array, ranges.flat(), 2), ...this.numbers(Uint16Array, gids)]);
         const at = this.room(lists.length * BYTES_OF_REQUEST), view = this.view(at, lists.length * BYTES_OF_REQUEST);
         lists.forEach((numbers, i) => {
             const begin = i * BYTES_OF_REQUEST;
@@ -160,156 +76,30 @@ class Areas {
         });
         return [at, BigInt(lists.length)];
     }
-
-    bytes(at, length) {
-        return new Uint8Array(this.#exports.memory.buffer, Number(at), length);
-    }
-
-    view(at, length) {
-        return new DataView(this.#exports.memory.buffer, Number(at), length);
-    }
-
-    // What a call of the module answers. If it traps, its memory may be half written, and is used no more.
-    answer(name, ...given) {
-        try {
-            this.#exports[`fontcut_${name}`](this.#answer, ...given);
-        } catch (error) {
-            this.#held = [];
-            if (instance === this.#exports) {
-                release();
-            }
-            throw error;
-        }
-        const said = this.view(this.#answer, BYTES_OF_ANSWER);
-        return {
-            status: said.getUint32(0, true), detail: said.getUint32(4, true),
-            size: Number(said.getBigUint64(8, true)), step: Number(said.getBigUint64(16, true)),
-        };
-    }
-
-    // The answer of a call that is done; otherwise throws what it says. Of several files it says which one.
-    done(answer, isOfSeveral = false) {
-        const { status, detail, step } = answer;
-        if (status === DONE) {
-            return answer;
-        }
-        if (status === NO_MEMORY) {
-            throw new FontcutError(status, 'no memory');
-        }
-        const texts = { [NO_GLYPH]: `no such glyph at ${detail}`, [NO_NUMBERS]: 'no glyphs by number in full cuts' };
-        const text = texts[status] ?? this.#textOfLast();
-        const file = isOfSeveral && status !== NOTHING_TO_JOIN ? step : undefined;
-        throw new FontcutError(status, text, argumentOf(answer), file);
-    }
-
-    #textOfLast() {
-        const again = this.room(BYTES_OF_ANSWER), text = this.room(LONGEST_TEXT);
-        this.bytes(again, BYTES_OF_ANSWER).set(this.bytes(this.#answer, BYTES_OF_ANSWER));
-        const { size } = this.done(this.answer('refusal_text', again, text, BigInt(LONGEST_TEXT)));
-        return new TextDecoder().decode(this.bytes(text, size));
-    }
-
-    // What a call writes into room for so many items, or for as many as it then says that it needs.
-    written(items, bytesOfItem, make, isOfSeveral = false) {
-        let room = this.room(items * bytesOfItem), answer = make(room, BigInt(items));
-        if (answer.status === SMALL_ROOM) {
-            this.#exports.fontcut_free(this.#held.pop());
-            room = this.room(answer.size * bytesOfItem);
-            answer = make(room, BigInt(answer.size));
-        }
-        const { size } = this.done(answer, isOfSeveral);
-        return this.bytes(room, size * bytesOfItem).slice();
-    }
-
-    leave() {
-        for (const at of this.#held.reverse()) {
-            this.#exports.fontcut_free(at);
-        }
-    }
 }
 
-function within(work) {
-    const areas = new Areas();
-    try {
-        return work(areas);
-    } finally {
-        areas.leave();
-    }
+const within = (work) => new FontAreas(own).within(work);
+
+// The ranges of a text: in cuts that are to be shaped, with the characters that a shaper takes for it too.
+function rangesOfText(text, { kind, exactly = false }) {
+    const isShaped = text && WITH_LINKS.includes(kind) && !exactly;
+    return isShaped ? rangesNeeded(text) : merged(charactersOf(text).map((code) => [code, code]));
 }
 
-function charactersOf(text) {
-    const codes = Array.from(text, (character) => character.codePointAt(0));
-    const place = codes.findIndex((code) => code >= 0xD800 && code <= 0xDFFF);
-    if (place >= 0) {
-        throw new RangeError(`fontcut: item ${place} of the text is a lone surrogate`);
-    }
-    return codes;
-}
-
-// The first and the last code of a word: all, U+41, U+41-5A or U+4??, also without U+.
-function rangeOfWord(word) {
-    const span = /^(?:U\+)?([0-9A-F]{1,6})(?:-(?:U\+)?([0-9A-F]{1,6}))?$/i.exec(word);
-    if (span) {
-        return [parseInt(span[1], 16), parseInt(span[2] ?? span[1], 16)];
-    }
-    if (/^(?:U\+)?(?=.{1,6}$)[0-9A-F]*\?+$/i.test(word)) {
-        const digits = word.replace(/^U\+/i, '');
-        return [parseInt(digits.replaceAll('?', '0'), 16), parseInt(digits.replaceAll('?', 'F'), 16)];
-    }
-    if (word === 'all' || word === '*') {
-        return [0, LAST_CODE];
-    }
-    throw new RangeError(`fontcut: bad word ${word}: a range is written U+41, U+41-5A, U+4?? or all`);
-}
-
-// A line that `fontcut codes --glyphs` prints: a code, its glyph number and an advance width, each after a blank.
-const COLUMNS = /^[ \t\r,;]*(U\+[0-9A-Fa-f]{1,6}) [ \t\r,;]*[0-9]{1,5} [ \t\r,;]*[0-9]{1,5}(?![0-9,;])[ \t\r,;]*$/;
-
-// The words of a list: what `--codes-file` of the program reads, with comments, and as CSS has it.
-function wordsOf(list) {
-    const plain = list.replace(/^\uFEFF/, '').replace(/#[^\n]*/g, '');
-    const lines = plain.replace(/(^|[ \t\r\n,;])(unicode-range:)+/g, '$1 ').split('\n');
-    return lines.flatMap((line) => COLUMNS.exec(line)?.[1] ?? line.split(/[ \t\r,;]+/)).filter(Boolean);
-}
-
-// The characters that a text stands for: in cuts that are to be shaped, those that a shaper takes for it too.
-function lettersOf(text, { kind, exactly = false }) {
-    const own = charactersOf(text);
-    return WITH_LINKS.includes(kind) && !exactly ? charactersOf(needed(text)) : own;
-}
-
-function pairsOf({ text, unicodes, gids }, how) {
+// The wanted codes as ascending ranges, of which none touches another.
+function rangesOf({ text, unicodes, gids }, how) {
     if (text === undefined && unicodes === undefined && gids === undefined) {
         throw new TypeError('fontcut: say what is wanted by text, unicodes or gids');
     }
-    const isWords = typeof unicodes === 'string';
-    const pairs = isWords ? wordsOf(unicodes).map(rangeOfWord) : [...unicodes ?? []];
-    return [...pairs, ...new Set(lettersOf(text ?? '', how))].map((one) => typeof one === 'number' ? [one, one] : one);
-}
-
-// The wanted codes as first, last, first, last and so on, ascending, no range touching another.
-function rangesOf(wanted, how) {
-    const pairs = pairsOf(wanted, how), merged = [];
+    const listed = typeof unicodes === 'string' ? ranges(unicodes) : Array.from(unicodes ?? []);
+    const listedPairs = listed.map((one) => typeof one === 'number' ? [one, one] : one);
+    const pairs = [...listedPairs, ...rangesOfText(text ?? '', how)];
     for (const [first, last] of pairs) {
         if (!(Number.isInteger(first) && Number.isInteger(last) && 0 <= first && first <= last && last <= LAST_CODE)) {
             throw new RangeError(`fontcut: not a range of code points: ${first} to ${last}`);
         }
     }
-    for (const [first, last] of pairs.sort(([one], [other]) => one - other)) {
-        if (merged.length && first <= merged.at(-1) + 1) {
-            merged[merged.length - 1] = Math.max(last, merged.at(-1));
-        } else {
-            merged.push(first, last);
-        }
-    }
-    return merged;
-}
-
-const pairsIn = (numbers) => Array.from({ length: numbers.length / 2 }, (_, i) => [numbers[2 * i], numbers[2 * i + 1]]);
-
-/** The code points that a list of ranges names, as pairs of the first and the last of a range, ascending. */
-export function ranges(words) {
-    return pairsIn(rangesOf({ unicodes: String(words) }, {}));
+    return merged(pairs);
 }
 
 function kindOf({ kind = 'full' } = {}) {
@@ -358,7 +148,7 @@ function requestIn(areas, font, wanted, kind, flags) {
 
 /** The version of the module, such as '0.11.0'. */
 export function version() {
-    const number = exportsOf().fontcut_version();
+    const number = own.calls.fontcut_version();
     return `${number >> 16}.${number >> 8 & 255}.${number & 255}`;
 }
 
@@ -383,30 +173,50 @@ function isSubstituted(font, unicodes) {
     return kindWhere((kind) => countIn(kind) > countIn('lean'), ['layout']) !== undefined;
 }
 
+// The code points of some ranges that a font maps.
+function mappedIn(font, ranges) {
+    if (ranges.reduce((sum, [first, last]) => sum + last - first + 1, 0) > FEW_CODES) {
+        return codesIn(shared(codes(font), ranges));
+    }
+    const given = codesIn(ranges), numbers = glyphs(font, given);
+    return given.filter((_, i) => numbers[i]);
+}
+
+// Those of some code points that joiners are used with, as letters are that join or change places: a text of them needs
+// joiners.
+function joining(given) {
+    const letters = given.filter((code) => !JOINERS.includes(code) && !(code >= 0xD800 && code <= 0xDFFF));
+    const needs = rangesNeeded(letters.map((code) => String.fromCodePoint(code)).join(' '));
+    if (!needs.some(([first, last]) => first <= JOINERS[0] && JOINERS[0] <= last)) {
+        return [];
+    }
+    const half = given.length >> 1;
+    return half ? [...joining(given.slice(0, half)), ...joining(given.slice(half))] : given;
+}
+
 // The first character of some ranges that a cut of a kind does not shape, and its font does.
 function unshapedIn(font, kind, ranges) {
-    const pairs = WITH_LINKS.includes(kind) ? [] : joining(ranges);
-    const codes = pairs.flatMap(([first, last]) => Array.from({ length: last - first + 1 }, (_, i) => first + i));
-    const numbers = codes.length ? glyphs(font, codes) : [], mapped = codes.filter((_, i) => numbers[i]);
-    if (!mapped.length || !isSubstituted(font, mapped)) {
+    const found = WITH_LINKS.includes(kind) ? [] : joining(mappedIn(font, ranges));
+    if (!found.length || !isSubstituted(font, found)) {
         return undefined;
     }
-    const letters = mapped.filter((code) => /\p{L}/u.test(String.fromCodePoint(code)));
-    return String.fromCodePoint(letters.find((code) => isSubstituted(font, [code])) ?? mapped[0]);
+    const letters = found.filter((code) => /\p{L}/u.test(String.fromCodePoint(code)));
+    return String.fromCodePoint(letters.find((code) => isSubstituted(font, [code])) ?? found[0]);
 }
 
 /** The first of the wanted characters that the font shapes and its cut does not, or undefined. */
 export function unshaped(font, wanted) {
     const kind = kindOf(wanted);
-    return unshapedIn(font, kind, pairsIn(rangesOf(wanted, { kind })));
+    return unshapedIn(font, kind, rangesOf(wanted, { kind }));
 }
 
-// Says once of a font that a cut for characters alone drops what shapes them. Out of memory, it does not.
+// Says once of a font that a cut for characters alone drops what shapes them, if the module of texts is there to tell.
+// Out of memory, it does not.
 const warned = new WeakSet();
 function warnUnshaped(font, { kind, ranges, gids, quiet }) {
     try {
-        const isTold = quiet || gids.length || warned.has(font);
-        const letter = isTold ? undefined : unshapedIn(font, kind, pairsIn(ranges));
+        const isTold = quiet || gids.length || warned.has(font) || !texts.isLoaded;
+        const letter = isTold ? undefined : unshapedIn(font, kind, ranges);
         if (letter !== undefined) {
             const code = letter.codePointAt(0), word = rangeWord([code, code], 'U+');
             warned.add(font);
@@ -461,8 +271,8 @@ export function cuts(font, sets, options) {
         let end = 0;
         return wanted.map((_, i) => all.slice(end, end += Number(lengths.getBigUint64(8 * i, true))));
     });
-    const [ranges, gids] = [wanted.flatMap((one) => one.ranges), wanted.flatMap((one) => one.gids)];
-    warnUnshaped(font, { kind, ranges, gids, quiet: options?.quiet });
+    const [pairs, gids] = [wanted.flatMap((one) => one.ranges), wanted.flatMap((one) => one.gids)];
+    warnUnshaped(font, { kind, ranges: merged(pairs), gids, quiet: options?.quiet });
     return made;
 }
 
@@ -571,7 +381,7 @@ export class Font {
     #home; // the exports of the instance that it lies in
 
     constructor(data) {
-        const bytes = bytesOf(data), home = exportsOf(), at = home.fontcut_alloc(BigInt(Math.max(1, bytes.length)));
+        const bytes = bytesOf(data), home = own.calls, at = home.fontcut_alloc(BigInt(Math.max(1, bytes.length)));
         if (at === 0n) {
             throw new FontcutError(NO_MEMORY, 'no memory');
         }
@@ -587,7 +397,7 @@ export class Font {
 
     /** Frees its memory. No call takes it then. */
     free() {
-        if (this.#home && this.#home === instance) {
+        if (own.has(this.#home)) {
             this.#home.fontcut_free(this.#at);
         }
         this.#home = undefined;
@@ -595,7 +405,7 @@ export class Font {
 
     /** @internal */
     place() {
-        if (!this.#home || this.#home !== instance) {
+        if (!own.has(this.#home)) {
             throw new Error('fontcut: the font was freed');
         }
         return [this.#at, this.#length];

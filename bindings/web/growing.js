@@ -7,13 +7,11 @@
 //
 // The server answers `?unicodes=6F22,5B57&kind=lean` with the lean cut for these code points, as examples/server does,
 // and with the layout cut or the variable cut if that is the kind. These two grow by all characters that a text needs.
-import { init, join } from './fontcut.js';
-import { KINDS, SHAPED, rangeWords } from './kinds.js';
-import { needed } from './needed.js';
+import { init, initTexts, join } from './fontcut.js';
+import { KINDS, SHAPED, charactersOf, codesIn, rangeWords } from './kinds.js';
+import { rangesNeeded } from './texts.js';
 
 const MOST_RANGES = 500; // of one request, so that its query stays below 8,000 characters
-
-const isSurrogate = (code) => code >= 0xD800 && code <= 0xDFFF;
 
 export class GrowingFont {
     #family;
@@ -52,9 +50,12 @@ export class GrowingFont {
     }
 
     async #grow(text) {
-        const characters = new Set(SHAPED.includes(this.#kind) ? needed(text) : text);
-        const codes = Array.from(characters, (character) => character.codePointAt(0));
-        const missing = codes.filter((code) => !this.#known.has(code) && !isSurrogate(code)).sort((a, b) => a - b);
+        const isShaped = SHAPED.includes(this.#kind), own = text.replace(/\p{Surrogate}/gu, '');
+        if (isShaped) {
+            await initTexts();
+        }
+        const codes = isShaped ? codesIn(rangesNeeded(own)) : [...new Set(charactersOf(own))];
+        const missing = codes.filter((code) => !this.#known.has(code));
         if (!missing.length) {
             return;
         }

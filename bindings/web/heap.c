@@ -1,5 +1,5 @@
-/* The heap of fontcut.wasm: rattle_alloc, rattle_realloc and rattle_dealloc, which the toolchain's own object has
- * over malloc, for a module that has no C library; and four exports for the page that calls the module.
+/* The heap of the modules for browsers: rattle_alloc, rattle_realloc and rattle_dealloc, which the toolchain's own object
+ * has over malloc, for a module that has no C library; and four exports for the page that calls the module.
  *
  * A block is a head of 16 bytes and what is given out, a multiple of 16 bytes. Blocks lie end to end from __heap_base
  * to the end of the memory, where a head alone stands that is never free. No two free blocks touch. A block is given

@@ -1,5 +1,6 @@
-// Copies into this folder of a checkout what the package has from others: the module that gen/ has with its notice, and
-// the lists of slices. npm runs it before it links or packs the folder. A released package has these files, and it does nothing.
+// Copies into this folder of a checkout what the package has from others: the modules and the notice of gen/, and the
+// lists of slices. npm runs it before it links or packs the folder. In a released package, which has these files, it
+// does nothing.
 import { spawnSync } from 'node:child_process';
 import { copyFileSync, existsSync, mkdirSync, readdirSync } from 'node:fs';
 import { join } from 'node:path';
@@ -14,6 +15,7 @@ if (existsSync(check)) {
         process.exit(1);
     }
     mkdirSync(join(here, 'lists'), { recursive: true });
-    for (const name of ['fontcut.wasm', 'NOTICE']) copyFileSync(join(top, 'gen', name), join(here, name));
+    const names = ['fontcut.wasm', 'fontcut_text.wasm', 'NOTICE'];
+    for (const name of names) copyFileSync(join(top, 'gen', name), join(here, name));
     for (const name of readdirSync(lists)) copyFileSync(join(lists, name), join(here, 'lists', name));
 }

@@ -14,9 +14,8 @@
 import { createHash } from 'node:crypto';
 import { promisify } from 'node:util';
 import { brotliCompress, constants } from 'node:zlib';
-import { Font, FontcutError, init, ranges, subset } from './fontcut.js';
+import { Font, FontcutError, init, initTexts, needed, ranges, subset } from './fontcut.js';
 import { KINDS, NO_MEMORY, SHAPED } from './kinds.js';
-import { needed } from './needed.js';
 
 const LONGEST_QUERY = 8000; // characters
 const HEADERS = {
@@ -125,7 +124,7 @@ async function answered(fonts, request) {
 
 /** Answers a Request for a cut of one of the fonts, which are bytes by the names of their URLs. */
 export async function cutHandler(fonts) {
-    await init();
+    await Promise.all([init(), initTexts()]);
     const served = new Map(Object.entries(fonts).map(([name, data]) => [name, opened(data)]));
     return async (request) => {
         let answer;

@@ -7,8 +7,8 @@
 //
 // The lists beside this file are fetched, or read in node, when they are first needed. They are those of the module for
 // Python, and lists/NOTICE.txt is Unicode's permission notice.
-import { codes, ranges } from './fontcut.js';
-import { rangeWords } from './kinds.js';
+import { codes, initTexts, ranges } from './fontcut.js';
+import { codesIn, rangeWords } from './kinds.js';
 
 // Each list by an address of its own, which bundlers see.
 const LISTS = {
@@ -61,8 +61,6 @@ async function linesOf(name) {
     return new Map(lines.map((line) => [line.slice(0, line.indexOf(' ')), line.slice(line.indexOf(' ') + 1)]));
 }
 
-const codesOf = (pairs) => pairs.flatMap(([first, last]) =>
-    Array.from({ length: last - first + 1 }, (_, i) => first + i));
 const charactersOf = (text) => Array.from(text.replace(/[\s\uFEFF]/g, ''), (letter) => letter.codePointAt(0));
 
 const numbered = (front, count) => Array.from({ length: count }, (_, i) =>
@@ -86,12 +84,12 @@ function divided(names, given, sizes, parts) {
 }
 
 function listed(name, words, left) {
-    const inside = new Set(codesOf(ranges(words)));
+    const inside = new Set(codesIn(ranges(words)));
     return [{ name, codes: left.filter((code) => inside.has(code)) }];
 }
 
 async function orderOf(language) {
-    return [...charactersOf(await textOf(`${language}.txt`)), ...codesOf(IDEOGRAPHS)];
+    return [...charactersOf(await textOf(`${language}.txt`)), ...codesIn(IDEOGRAPHS)];
 }
 
 // The slices of a language: one of its signs, and those of its characters by their use.
@@ -177,12 +175,13 @@ async function inTurn(names, order, all) {
  * names it. `order` is a text whose characters come first in slices by use.
  */
 export async function slices(font, names, { order = '' } = {}) {
+    await initTexts();
     const words = (await Promise.all(Array.from(names, async (name) =>
         name === 'web' ? [...(await linesOf('web.txt')).keys()] : [name]))).flat();
     const twice = words.map((word) => word.replace(/:few-.*/, '')).find((word, i, all) => all.indexOf(word) < i);
     if (twice) {
         throw new RangeError(`fontcut: two slices have the name ${twice}`);
     }
-    const found = await inTurn(words, charactersOf(order), codesOf(codes(font)));
+    const found = await inTurn(words, charactersOf(order), codesIn(codes(font)));
     return found.map((one) => ({ name: one.name, unicodes: rangeWords(one.codes, 'U+').join(', ') }));
 }

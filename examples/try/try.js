@@ -1,7 +1,7 @@
 // Cuts of a font for two texts, their join, and how the browser draws them. All of it happens in the page.
 
-import { Font, FontcutError, glyphs, init, join, subset, unshaped } from '../../bindings/web/fontcut.js';
-import { needed } from '../../bindings/web/needed.js';
+import { Font, FontcutError, glyphs, init, initTexts, join, needed, subset, unshaped }
+    from '../../bindings/web/fontcut.js';
 
 const SAMPLE = 'DejaVuSans.ttf';
 const SHAPED = ['layout', 'variable'];
@@ -33,8 +33,7 @@ function lost(text, kind, cut) {
     const characters = [...new Set(text)].filter((one) => !/\s/.test(one));
     const found = characters.length > 0 ? glyphs(font, characters.join('')) : [];
     const missing = characters.filter((_, at) => found[at] === 0);
-    const tags = tagsOf(cut);
-    const dropped = tagsOf(bytes).filter((tag) => !tags.includes(tag));
+    const tags = tagsOf(cut), dropped = tagsOf(bytes).filter((tag) => !tags.includes(tag));
     const said = [], more = missing.length > NAMED ? ` and ${missing.length - NAMED} more` : '';
     if (missing.length > 0) {
         said.push(`The font itself has no ${missing.slice(0, NAMED).join(', ')}${more}.`);
@@ -144,6 +143,7 @@ for (const kind of ['dragover', 'dragleave', 'drop']) {
     });
 }
 
-await trying(async () => init(new URL('../../gen/fontcut.wasm', import.meta.url)));
+await trying(() => Promise.all([init(new URL('../../gen/fontcut.wasm', import.meta.url)),
+    initTexts(new URL('../../gen/fontcut_text.wasm', import.meta.url))]));
 await takeSample();
 document.body.dataset.ready = 'true';

@@ -77,9 +77,9 @@ for path in sys.argv[1:]:
 
 # Prints the lean cut of a font for ASCII, as a program in node gets it that has the package installed.
 FOR_NODE = """import { readFileSync } from 'node:fs';
-import { init, subset } from 'fontcut';
+import { init, initTexts, subset } from 'fontcut';
 import 'fontcut/growing';
-await init();
+await Promise.all([init(), initTexts()]);
 const wanted = { unicodes: 'U+20-7E', kind: 'lean' };
 process.stdout.write(subset(readFileSync(process.argv[2]), wanted));
 """

@@ -9,7 +9,6 @@ import { Worker } from 'node:worker_threads';
 const [place, path, otherPath] = process.argv.slice(2);
 const fontcut = await import(pathToFileURL(`${place}/fontcut.js`));
 const { GrowingFont } = await import(pathToFileURL(`${place}/growing.js`));
-const { needed } = await import(pathToFileURL(`${place}/needed.js`));
 const [bytes, otherBytes] = await Promise.all([readFile(path), readFile(otherPath)]);
 const cutFor = (text, kind = 'lean', font = bytes) => fontcut.subset(font, { text, kind });
 const freed = { message: 'fontcut: the font was freed' };
@@ -18,12 +17,32 @@ const freed = { message: 'fontcut: the font was freed' };
 console.warn = () => {};
 
 const checks = {
-    'a call before init is refused': () => assert.throws(() => fontcut.version(), { message: /await init/ }),
+    'a call before init is refused': () => assert.throws(() => fontcut.version(), { message: /await init\(\)/ }),
 
     'two calls of init at once compile one module': async () => {
         const [one, other] = await Promise.all([fontcut.init(), fontcut.init()]);
         assert.equal(one, other);
         assert.equal(await fontcut.init(), one);
+    },
+
+    'what reads no list and no shaped text does not need the module of texts': async () => {
+        const message = /await initTexts\(\)/, text = 'A';
+        for (const kind of ['full', 'lean']) {
+            assert.ok(fontcut.subset(bytes, { text, unicodes: [[0x41, 0x5A]], kind }).length);
+        }
+        for (const given of [{ gids: [3] }, { unicodes: [0x41], text: '' }, { text, exactly: true }]) {
+            assert.ok(fontcut.subset(bytes, { ...given, kind: 'layout' }).length);
+        }
+        for (const given of [{ text, kind: 'layout' }, { unicodes: 'U+41' }]) {
+            assert.throws(() => fontcut.subset(bytes, given), { message });
+        }
+        assert.throws(() => fontcut.ranges('U+41'), { message });
+        assert.throws(() => fontcut.needed(text), { message });
+        const [one, other] = await Promise.all([fontcut.initTexts(), fontcut.initTexts()]);
+        assert.equal(one, other);
+        const wasm = await readFile(`${place}/fontcut_text.wasm`);
+        assert.notEqual(await fontcut.initTexts(wasm), one);
+        assert.deepEqual(fontcut.ranges('U+41, 42'), [[0x41, 0x42]]);
     },
 
     'the version of the module is that of the package': async () => {
@@ -44,7 +63,7 @@ const checks = {
     'what is given in a wrong form is named': () => {
         assert.throws(() => fontcut.subset('Hello', { text: 'a' }), TypeError);
         assert.throws(() => fontcut.subset(bytes, {}), TypeError);
-        assert.throws(() => fontcut.subset(bytes, { text: 'a\uD800' }), /item 1 of the text is a lone surrogate/);
+        assert.throws(() => fontcut.subset(bytes, { text: 'a\uD800' }), /: item 1 is the lone surrogate U\+D800, /);
         assert.throws(() => fontcut.subset(bytes, { text: 'a', kind: 'thin' }), /no kind of cut: thin/);
         for (const unicodes of [[[2, 1]], [0x110000], [-1], [0.5], ['A'], 'U+110000', 'U+', 'Hello', 'U+4?5']) {
             assert.throws(() => fontcut.subset(bytes, { unicodes }), RangeError, String(unicodes));
@@ -157,7 +176,8 @@ const checks = {
     },
 
     'with a limit of memory a call gives the right bytes or the number 16': () => {
-        const wanted = { unicodes: 'all' }, cut = fontcut.subset(bytes, wanted), counts = { done: 0, refused: 0 };
+        const wanted = { unicodes: [[0, 0x10FFFF]] }, counts = { done: 0, refused: 0 };
+        const cut = fontcut.subset(bytes, wanted);
         fontcut.release();
         const font = new fontcut.Font(bytes), base = fontcut.memory();
         for (let more = 0; more < 2 * bytes.length; more += 65536) {
@@ -347,13 +367,16 @@ const growing = {
         }
     },
 
-    'lone surrogates are passed over': async () => {
+    'lone surrogates are passed over by a growing font alone': async () => {
         for (const kind of ['lean', 'layout', 'variable']) {
             const page = new Page(), font = new GrowingFont('Grown', '/font.ttf', { kind });
             await font.add('\uD800 \uDC00a');
             page.shows(cutFor(' a', kind));
         }
-        assert.equal(needed('\uD800'), '');
+        for (const read of [fontcut.needed, fontcut.ranges]) {
+            assert.throws(() => read('a\uDC00'),
+                { name: 'RangeError', message: 'fontcut: item 1 is the lone surrogate U+DC00, which is no character' });
+        }
     },
 
     'a kind that is none is refused': () => {

@@ -7,7 +7,7 @@ import { compare } from './web_compare.mjs';
 globalThis.crypto ??= webcrypto;
 const [place, folder] = process.argv.slice(2);
 const fontcut = await import(pathToFileURL(`${place}/fontcut.js`));
-await fontcut.init();
+await Promise.all([fontcut.init(), fontcut.initTexts()]);
 // Nothing is said of what cuts drop.
 console.warn = () => {};
 const cases = JSON.parse(await readFile(`${folder}/cases.json`, 'utf8'));

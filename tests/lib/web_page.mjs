@@ -34,7 +34,7 @@ async function grown(font) {
 
 const report = { error: null, agent: navigator.userAgent };
 try {
-    const module = await fontcut.init(), font = await load('1.bin');
+    const [module] = await Promise.all([fontcut.init(), fontcut.initTexts()]), font = await load('1.bin');
     report.worker = await byWorker(module, font);
     report.grown = await grown(font);
     report.compare = await compare(fontcut, JSON.parse(new TextDecoder().decode(await load('cases.json'))), load);
