@@ -47,7 +47,7 @@ export interface Exactly {
 
 /**
  * A full or lean cut for characters alone may drop what shapes them, as `unshaped` says: then `console.warn` says so
- * once for each font, if the module of texts is there, and unless this is asked for.
+ * once for each font, unless this is asked for.
  */
 export interface Quiet {
     quiet?: boolean;
@@ -87,6 +87,23 @@ export interface FontInfo {
     descender: number;
 }
 
+/** A number of which nothing is said is 0. */
+export interface Losses {
+    /** How many wanted characters the font does not map, but for spaces and characters that are not seen. */
+    missing: number;
+    /** How many scripts the font shapes and the cut does not, of those whose text cannot be read then. */
+    scripts: number;
+    firstMissing: number;
+    firstUnshaped: number;
+    /** How many axes the font has, if the cut has none. */
+    axes: number;
+    /** The tag of the first table with colours, which cuts drop, or ''. */
+    colours: string;
+    /** The code point of a wanted variation sequence of the font, which cuts drop, and its selector. */
+    sequence: number;
+    selector: number;
+}
+
 export interface Metric {
     advance: number;
     bearing: number;
@@ -98,7 +115,7 @@ export type Source = string | URL | Response | BufferSource | WebAssembly.Module
 export function init(source?: Source | Promise<Source>): Promise<WebAssembly.Module>;
 /**
  * Compiles the module of texts, and returns it; with no source it is `fontcut_text.wasm` beside `fontcut.js`, compiled
- * once. `ranges`, `needed`, `unshaped`, range words, and texts in layout and variable cuts need it.
+ * once. `ranges`, `needed`, range words, and texts in layout and variable cuts need it.
  */
 export function initTexts(source?: Source | Promise<Source>): Promise<WebAssembly.Module>;
 /** Frees all memory of both modules. Each Font is freed. */
@@ -121,10 +138,11 @@ export function cuts(
     font: Bytes | Font, sets: readonly (Characters & Glyphs)[] | Iterable<Characters & Glyphs>,
     options?: Closing & Exactly & OfKind & Quiet,
 ): Uint8Array[];
+/** What the cut for wanted characters lacks or drops of what they need, as the program says it. None is made. */
+export function lost(font: Bytes | Font, wanted: Characters & Exactly & OfKind): Losses;
 /**
- * The first of the wanted characters that the font shapes and its cut does not, or undefined: a letter that joins with
- * others or changes its place by GSUB, which full and lean cuts drop. Letters of scripts that are shaped by GPOS alone,
- * as Thai and Hebrew are, do not count.
+ * The first of the wanted characters that the font shapes and its cut does not, or undefined: one of a script whose text
+ * cannot be read where nothing shapes it, as Arabic or Devanagari.
  */
 export function unshaped(font: Bytes | Font, wanted: Characters & OfKind): string | undefined;
 /**

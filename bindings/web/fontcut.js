@@ -12,21 +12,21 @@
 // A font is an ArrayBuffer or a view of one. Calls are synchronous: a worker keeps a long one off the page's thread.
 // Each call copies what it reads into a module's memory, and frees all that it took when it returns or throws.
 
-import { FontcutError, KINDS, NO_GLYPH, NO_MEMORY, SHAPED, SMALL_ROOM, charactersOf, codesIn, kindWhere, merged,
-    pairsIn, rangeWord, shared } from './kinds.js';
-import { Areas, Module, bytesOf } from './module.js';
+import { FontcutError, KINDS, NO_GLYPH, NO_MEMORY, SHAPED, SMALL_ROOM, charactersOf, kindWhere, merged, pairsIn,
+    rangeWord } from './kinds.js';
+import { Areas, Module, bytesOf, tagOf } from './module.js';
 import { initTexts, needed, ranges, rangesNeeded, texts } from './texts.js';
 
 export { FontcutError, initTexts, needed, ranges };
 
 const LAST_CODE = 0x10FFFF;
-const JOINERS = [0x200C, 0x200D];
-const FEW_CODES = 4096; // that are looked up in a font one by one
 const MOST_GLYPHS = 0xFFFF; // of a font: no glyph has this number
 const WITH_LINKS = SHAPED.map((kind) => KINDS.indexOf(kind));
 const FORMS = ['none', 'current', 'old'];
 
 const BYTES_OF_INFO = 16, BYTES_OF_REQUEST = 48;
+// The numbers of what a cut lacks or drops, as C has them.
+const LOSSES = ['missing', 'scripts', 'firstMissing', 'firstUnshaped', 'axes', 'colours', 'sequence', 'selector'];
 // The flags of a request, and of a look-up.
 const CLOSES = 1, CHECKED = 2;
 
@@ -167,61 +167,40 @@ export function subsetSize(font, wanted) {
     });
 }
 
-// Whether GSUB may substitute for the glyphs of some codes. It does not if it cannot be read.
-function isSubstituted(font, unicodes) {
-    const countIn = (kind) => closure(font, { unicodes, kind }).length;
-    return kindWhere((kind) => countIn(kind) > countIn('lean'), ['layout']) !== undefined;
+// What a cut of a kind lacks or drops of the characters of some ranges.
+function lostIn(font, kind, ranges) {
+    return within((areas) => {
+        const [request] = areas.requests(kind, flagOf(font), [{ ranges, gids: [] }]);
+        const at = areas.room(4 * LOSSES.length);
+        areas.done(areas.answer('lost', request, ...areas.file(font), at));
+        const view = areas.view(at, 4 * LOSSES.length);
+        return Object.fromEntries(LOSSES.map((name, i) => [name, view.getUint32(4 * i, true)]));
+    });
 }
 
-// The code points of some ranges that a font maps.
-function mappedIn(font, ranges) {
-    if (ranges.reduce((sum, [first, last]) => sum + last - first + 1, 0) > FEW_CODES) {
-        return codesIn(shared(codes(font), ranges));
-    }
-    const given = codesIn(ranges), numbers = glyphs(font, given);
-    return given.filter((_, i) => numbers[i]);
-}
-
-// Those of some code points that joiners are used with, as letters are that join or change places: a text of them needs
-// joiners.
-function joining(given) {
-    const letters = given.filter((code) => !JOINERS.includes(code) && !(code >= 0xD800 && code <= 0xDFFF));
-    const needs = rangesNeeded(letters.map((code) => String.fromCodePoint(code)).join(' '));
-    if (!needs.some(([first, last]) => first <= JOINERS[0] && JOINERS[0] <= last)) {
-        return [];
-    }
-    const half = given.length >> 1;
-    return half ? [...joining(given.slice(0, half)), ...joining(given.slice(half))] : given;
-}
-
-// The first character of some ranges that a cut of a kind does not shape, and its font does.
-function unshapedIn(font, kind, ranges) {
-    const found = WITH_LINKS.includes(kind) ? [] : joining(mappedIn(font, ranges));
-    if (!found.length || !isSubstituted(font, found)) {
-        return undefined;
-    }
-    const letters = found.filter((code) => /\p{L}/u.test(String.fromCodePoint(code)));
-    return String.fromCodePoint(letters.find((code) => isSubstituted(font, [code])) ?? found[0]);
+/** What the cut for wanted characters lacks or drops of what they need, as the program says it. None is made. */
+export function lost(font, wanted) {
+    const kind = kindOf(wanted);
+    const { colours, ...numbers } = lostIn(font, kind, rangesOf(wanted, { kind, exactly: wanted.exactly }));
+    return { ...numbers, colours: colours ? tagOf(colours).trim() : '' };
 }
 
 /** The first of the wanted characters that the font shapes and its cut does not, or undefined. */
 export function unshaped(font, wanted) {
-    const kind = kindOf(wanted);
-    return unshapedIn(font, kind, rangesOf(wanted, { kind }));
+    const { firstUnshaped } = lost(font, wanted);
+    return firstUnshaped ? String.fromCodePoint(firstUnshaped) : undefined;
 }
 
-// Says once of a font that a cut for characters alone drops what shapes them, if the module of texts is there to tell.
-// Out of memory, it does not.
+// Says once of a font that a cut for characters alone drops what shapes them. Out of memory, it does not.
 const warned = new WeakSet();
 function warnUnshaped(font, { kind, ranges, gids, quiet }) {
     try {
-        const isTold = quiet || gids.length || warned.has(font) || !texts.isLoaded;
-        const letter = isTold ? undefined : unshapedIn(font, kind, ranges);
-        if (letter !== undefined) {
-            const code = letter.codePointAt(0), word = rangeWord([code, code], 'U+');
+        const isTold = quiet || gids.length || WITH_LINKS.includes(kind) || warned.has(font);
+        const code = isTold ? 0 : lostIn(font, kind, ranges).firstUnshaped;
+        if (code) {
             warned.add(font);
-            console.warn(`fontcut: the font shapes letters as ${word}, which a ${KINDS[kind]} cut drops: `
-                + "ask for kind: 'layout'");
+            console.warn(`fontcut: the font shapes letters as ${rangeWord([code, code], 'U+')}, which a ${KINDS[kind]} `
+                + "cut drops: ask for kind: 'layout'");
         }
     } catch (error) {
         if (!(error instanceof FontcutError)) {

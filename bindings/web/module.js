@@ -102,7 +102,8 @@ export function bytesOf(data) {
     return new Uint8Array(data.buffer, data.byteOffset, data.byteLength);
 }
 
-const tagOf = (number) => String.fromCharCode(number >>> 24, number >> 16 & 255, number >> 8 & 255, number & 255);
+/** The four characters of a tag, which C has as a number. */
+export const tagOf = (number) => String.fromCharCode(number >>> 24, number >> 16 & 255, number >> 8 & 255, number & 255);
 
 function argumentOf({ status, detail, size }) {
     if (OF_TAGS.includes(status)) {

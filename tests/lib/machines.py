@@ -134,7 +134,7 @@ def lines_of_calls(path: str, name: str) -> list[str]:
         exact, closed = (request(kind, "41-43", "glyphs.in", flags) for flags in (0, CLOSES))
         lines += [f"cuts {path} {name}{kind}.cuts - - {closed} {exact} {request(kind, '')}", f"form {kind} {path}",
                   f"cut {path} {name}{kind}.exact - {exact}",
-                  f"closure {path} {name}{kind}.closure 65536 {closed}"]
+                  f"closure {path} {name}{kind}.closure 65536 {closed}", f"lost {path} {name}{kind}.lost {closed}"]
         if kind < len(KINDS):
             lines += [f"belongs {kind} {cuts[0]} {path}", f"join {kind} {name}{kind}.ttf - {cuts[0]} {cuts[1]}",
                       f"join {kind} {name}{kind}.ttf - {cuts[0]} {path}", f"form {kind} {cuts[0]}",

@@ -84,12 +84,23 @@ const checks = {
         }
         assert.deepEqual(told, []);
         const font = new Uint8Array(bytes);
-        fontcut.cuts(font, [{ text: 'A' }, { unicodes: 'U+600-6FF' }], { kind: 'lean' });
+        fontcut.cuts(font, [{ text: 'A' }, { unicodes: 'U+627-6FF' }], { kind: 'lean' });
         cutFor(arabic, 'lean', font);
         console.warn = () => {};
-        assert.deepEqual(told, ["fontcut: the font shapes letters as U+622, which a lean cut drops: ask for kind: 'layout'"]);
+        assert.deepEqual(told, ["fontcut: the font shapes letters as U+627, which a lean cut drops: ask for kind: 'layout'"]);
         assert.equal(fontcut.unshaped(bytes, { text: arabic }), '\u0627');
         assert.equal(fontcut.unshaped(bytes, { text: arabic, kind: 'layout' }), undefined);
+        assert.equal(fontcut.memory().inUse, 0);
+    },
+
+    'what a cut lacks or drops is counted': () => {
+        const none = { missing: 0, scripts: 0, firstMissing: 0, firstUnshaped: 0, axes: 0, sequence: 0, selector: 0,
+            colours: '' };
+        const text = 'A \u0915\u4E00\u0628\u05D0\u0627\u200B', missing = { missing: 2, firstMissing: 0x915 };
+        assert.deepEqual(fontcut.lost(bytes, { text }), { ...none, ...missing, scripts: 1, firstUnshaped: 0x627 });
+        assert.deepEqual(fontcut.lost(bytes, { text, kind: 'layout', exactly: true }), { ...none, ...missing });
+        assert.deepEqual(fontcut.lost(bytes, { text: '' }), none);
+        assert.throws(() => fontcut.lost(new Uint8Array(3), { text }), fontcut.FontcutError);
         assert.equal(fontcut.memory().inUse, 0);
     },
 
