@@ -17,5 +17,5 @@ pub use crate::coverage_lines::{
 };
 pub use crate::cut_kinds::{cut_kind, is_cut_of, kind_of_cut};
 pub use crate::kept::{Kept, WantedCodes};
-pub use crate::loss_counts::{Losses, loss_counts};
+pub use crate::loss_counts::{Losses, count_losses};
 pub use crate::lost::{Asked, losses};

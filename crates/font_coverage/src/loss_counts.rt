@@ -43,7 +43,7 @@ fn lost_axes(font: &Font<'_>, kind: Kind) -> u32 {
 ///
 /// # Errors
 /// `AllocError` if out of memory.
-pub fn loss_counts(
+pub fn count_losses(
     alloc: Global,
     font: &Font<'_>,
     kind: Kind,

@@ -8,7 +8,7 @@ use crate::cutting::opened_for_request;
 use crate::refusal::Refusal;
 use crate::requests::Request;
 use crate::wanted_ranges::wanted_of;
-use font_coverage::{Losses, loss_counts};
+use font_coverage::{Losses, count_losses};
 use font_theory::Kind;
 use std::alloc::Global;
 
@@ -26,6 +26,6 @@ pub(crate) fn lost_to(
 {
     let font = opened_for_request(file, request)?;
     let codes = wanted_of(alloc, request.wanted_ranges())?;
-    *out = loss_counts(alloc, &font, kind, &codes)?;
+    *out = count_losses(alloc, &font, kind, &codes)?;
     Ok(0)
 }
