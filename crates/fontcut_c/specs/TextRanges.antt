@@ -1,7 +1,7 @@
 -- What the calls for texts and lists answer, this project's own: ranges in the caller's room. Those of a text have each
 -- of its characters. What else a text needs, and which codes a list names, is not said: the tables of Unicode are
 -- believed, and tests compare both with what the program does.
-use Rattle.std.specs.Prelude.{◌≡◌, ¬, ℕ, ◌<◌, All, IsUtf8, List, chars, length, Result, MatchResult, true}
+use Rattle.std.specs.Prelude.{◌≡◌, ℕ, ◌<◌, All, IsUtf8, List, chars, length, Result, MatchResult, true}
 use Rattle.std.specs.Str.{IsValidUpTo}
 use Rattle.codes.specs.declared.code_range.CodeRange.{CodeRange}
 use Rattle.fontcut_c.specs.Answers.{IsInRoom, size_answer}

@@ -7,4 +7,4 @@ use Rattle.fontcut_c.proofs.text_ranges.add_characters.Given as goal
 abbrev pub invariant-loop-letter : goal.invariant-loop-letter
 invariant-loop-letter l =
     All (λ code. wanted_by l.ranges.items code ≡ true) l.yielded
-    × ((code : ℕ) → member l.wanted.now code ≡ true → wanted_by l.ranges.items code ≡ true)
+    × ((code : ℕ) → member l.wanted code ≡ true → wanted_by l.ranges.items code ≡ true)
