@@ -194,7 +194,8 @@ const checks = {
         font.free();
         assert.ok(counts.done && counts.refused && fontcut.memory().inUse === 0, JSON.stringify(counts));
         fontcut.limit(0);
-        assert.throws(() => new fontcut.Font(new Uint8Array(2 ** 26)), { number: 16, text: 'no memory' });
+        const tooMuch = [() => new fontcut.Font(new Uint8Array(2 ** 26)), () => fontcut.needed('a'.repeat(2 ** 20))];
+        tooMuch.forEach((call) => assert.throws(call, { number: 16, text: 'no memory' }));
         fontcut.limit(2 ** 40);
     },
 
