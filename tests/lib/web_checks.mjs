@@ -26,22 +26,17 @@ const checks = {
     },
 
     'what reads no list and no shaped text does not need the module of texts': async () => {
-        const message = /await initTexts\(\)/, text = 'A';
-        for (const kind of ['full', 'lean']) {
-            assert.ok(fontcut.subset(bytes, { text, unicodes: [[0x41, 0x5A]], kind }).length);
+        const text = 'A', unicodes = [0x41];
+        for (const given of [{ text, kind: 'lean' }, { gids: [3] }, { unicodes, text: '' }, { text, exactly: true }]) {
+            assert.ok(fontcut.subset(bytes, { kind: 'layout', ...given }).length);
         }
-        for (const given of [{ gids: [3] }, { unicodes: [0x41], text: '' }, { text, exactly: true }]) {
-            assert.ok(fontcut.subset(bytes, { ...given, kind: 'layout' }).length);
+        for (const call of [() => cutFor(text, 'layout'), () => fontcut.subset(bytes, { unicodes: 'U+41' }),
+                            () => fontcut.ranges('U+41'), () => fontcut.needed(text)]) {
+            assert.throws(call, { message: /await initTexts\(\)/ });
         }
-        for (const given of [{ text, kind: 'layout' }, { unicodes: 'U+41' }]) {
-            assert.throws(() => fontcut.subset(bytes, given), { message });
-        }
-        assert.throws(() => fontcut.ranges('U+41'), { message });
-        assert.throws(() => fontcut.needed(text), { message });
         const [one, other] = await Promise.all([fontcut.initTexts(), fontcut.initTexts()]);
         assert.equal(one, other);
-        const wasm = await readFile(`${place}/fontcut_text.wasm`);
-        assert.notEqual(await fontcut.initTexts(wasm), one);
+        assert.notEqual(await fontcut.initTexts(await readFile(`${place}/fontcut_text.wasm`)), one);
         assert.deepEqual(fontcut.ranges('U+41, 42'), [[0x41, 0x42]]);
     },
 
@@ -205,7 +200,8 @@ const checks = {
         font.free();
         assert.ok(counts.done && counts.refused && fontcut.memory().inUse === 0, JSON.stringify(counts));
         fontcut.limit(0);
-        assert.throws(() => new fontcut.Font(new Uint8Array(2 ** 26)), { number: 16, text: 'no memory' });
+        const tooMuch = [() => new fontcut.Font(new Uint8Array(2 ** 26)), () => fontcut.needed('a'.repeat(2 ** 20))];
+        tooMuch.forEach((call) => assert.throws(call, { number: 16, text: 'no memory' }));
         fontcut.limit(2 ** 40);
     },
 
