@@ -15,15 +15,16 @@ loop-letter-preserved-in-Continue-1 c =
     let pushed = sym c.in_ok-push.ensures.items in
     let have : List CodeRange → ℕ → Type 0 = λ ranges code. wanted_by ranges code ≡ true in
     let kept : (code : ℕ) → have before code → have after code =
-        λ code is. subst (λ ranges. have ranges code) pushed (wanted_by_kept before _ code is) in
-    let added : have after letter = subst (λ ranges. have ranges letter) pushed (wanted_by_added before letter) in
-    (All-push (have after) c.loop-letter.yielded letter (λ k d less. kept _ (c.loop-letter.invariant.0 k d less)) added,
-    λ code is. kept code (c.loop-letter.invariant.1 code is))
+    λ code is. subst (λ ranges. have ranges code) pushed (wanted_by_kept before _ code is) in
+    let added : have after letter = subst (λ ranges. have ranges letter) pushed (wanted_by_added before letter) in (
+      All-push (have after) c.loop-letter.yielded letter (λ k d less. kept _ (c.loop-letter.invariant.0 k d less)) added,
+      λ code is. kept code (c.loop-letter.invariant.1 code is),
+    )
 
 pub returns : goal.returns
 returns c =
     let end =
-        YieldsList-end (YieldsList-from_chars c.args.text.now c.utf8.text cc) c.loop-letter.yielded _
-        c.loop-letter.yielded_by _ _ c.in-None.is c.next.ensures.steps in
+    YieldsList-end (YieldsList-from_chars c.args.text.now c.utf8.text cc) c.loop-letter.yielded _
+    c.loop-letter.yielded_by _ _ c.in-None.is c.next.ensures.steps in
     subst (All (λ code. wanted_by c.loop-letter.ranges.items code ≡ true))
     (sym (map-id c.loop-letter.yielded) ∙ end.0) c.loop-letter.invariant.0
