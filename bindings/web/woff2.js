@@ -9,6 +9,9 @@ const KNOWN = `cmap head hhea hmtx maxp name OS/2 post cvt fpgm glyf loca prep C
 const OTHER = 63;
 // The version of the transformation that leaves outlines as they are. For other tables 0 is that.
 const PLAIN = 3 << 6;
+// How many times its own length a file may unpack to: browsers refuse one that unpacks to more, as that of a few glyphs of
+// a large font does.
+const MOST_RATIO = 100;
 
 // A number in groups of seven bits, of which the last is marked by its first bit (UIntBase128).
 function base128(number) {
@@ -46,7 +49,8 @@ export function woff2(bytes) {
         [constants.BROTLI_PARAM_MODE]: constants.BROTLI_MODE_FONT, [constants.BROTLI_PARAM_QUALITY]: 11,
         [constants.BROTLI_PARAM_LGWIN]: 22, [constants.BROTLI_PARAM_SIZE_HINT]: data.length,
     } });
-    const header = Buffer.alloc(48), end = header.length + directory.length + packed.length, length = end + (-end & 3);
+    const header = Buffer.alloc(48), end = header.length + directory.length + packed.length, own = end + (-end & 3);
+    const length = Math.max(own, Math.ceil(data.length / MOST_RATIO) + 3 & ~3);
     const whole = tables.reduce((sum, { data: { length: size } }) => sum + size + (-size & 3), 12 + 16 * tables.length);
     header.write('wOF2', 'latin1');
     font.copy(header, 4, 0, 4);
@@ -55,5 +59,10 @@ export function woff2(bytes) {
     header.writeUInt32BE(whole, 16);
     header.writeUInt32BE(packed.length, 20);
     header.writeUInt16BE(1, 24);
+    if (length > own) {
+        // Private data, so that it is long enough.
+        header.writeUInt32BE(own, 40);
+        header.writeUInt32BE(length - own, 44);
+    }
     return Buffer.concat([header, directory, packed], length);
 }

@@ -15,6 +15,9 @@ from .malformed import MALFORMED
 
 # What fontcut takes at most, unpacked.
 MOST_UNPACKED = 128 << 20
+# How many times its own length a WOFF2 file may unpack to: browsers refuse one that unpacks to more, as that of a few
+# glyphs of a large font does.
+_MOST_RATIO = 100
 # What is raised where a file is malformed that is packed.
 _MALFORMED = (*MALFORMED, zlib.error, *([woff2.brotli.error] if woff2.haveBrotli else []))
 
@@ -32,10 +35,33 @@ def packed(data: bytes) -> bytes:
     """A font as WOFF2, which encodes outlines anew. Raises `Refused` where these are malformed, which fontcut takes as
     they are."""
     need("brotli")
-    made = io.BytesIO()
     with _refusing("fontTools cannot pack it as WOFF2"):
-        woff2.compress(io.BytesIO(data), made)
+        made = _compressed(data, "glyf", "loca")
+        return made if _lacking(made) <= 0 else _padded(_compressed(data, "glyf", "loca", "hmtx"))
+
+
+def _compressed(data: bytes, *transformed: str) -> bytes:
+    made = io.BytesIO()
+    woff2.compress(io.BytesIO(data), made, transform_tables=set(transformed))
     return made.getvalue()
+
+
+def _lacking(data: bytes) -> int:
+    """How many bytes a WOFF2 file lacks for browsers to take it (WOFF 2.0, 4.1)."""
+    if struct.unpack_from(">I", data, 16)[0] <= _MOST_RATIO * len(data) // 2:
+        return 0
+    lengths: List[int] = [table.length for table in woff2.WOFF2Reader(io.BytesIO(data)).tables.values()]
+    return -(-sum(lengths) // _MOST_RATIO) - len(data)
+
+
+def _padded(data: bytes) -> bytes:
+    """A WOFF2 file with as much private data as it lacks for browsers to take it (WOFF 2.0, 4.1 and 7)."""
+    more = max(0, _lacking(data) + 3 & -4)
+    made = bytearray(data + bytes(more))
+    if more:
+        struct.pack_into(">I", made, 8, len(made))
+        struct.pack_into(">2I", made, 40, len(data), more)
+    return bytes(made)
 
 
 def compressed_size(data: bytes) -> Optional[int]:
