@@ -1,0 +1,4 @@
+pub mod ByteLemmas
+pub mod OrderLemmas
+pub mod PlaceLemmas
+pub mod StrictLemmas

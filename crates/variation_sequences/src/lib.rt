@@ -1,0 +1,13 @@
+//! The variation sequences of a font: what a selector after a code asks for.
+//! OpenType 1.9, cmap, Format 14: Unicode variation sequences.
+#![tactic(auto)]
+
+mod encoding;
+mod lists;
+mod order;
+mod sequences;
+mod strict;
+mod variant;
+
+pub use crate::sequences::Sequences;
+pub use crate::variant::{Entry, Variant, variant_glyph};
