@@ -1,10 +1,11 @@
 -- Members in order of their codes, and what a search for one finds.
-use Rattle.std.proofs.Common.{◌≡◌, ℕ, zero, suc, ◌+◌, ◌-◌, ◌<◌, ◌≤◌, Bool, true, false, ◌&&◌, ◌||◌, ltb, leb, eqb, find}
+use Rattle.std.proofs.Common.{◌≡◌, ℕ, zero, suc, ◌+◌, ◌-◌, ◌<◌, ◌≤◌, Bool, true, false, ◌&&◌, ◌||◌, ltb, leb, eqb, find, max}
 use Rattle.std.proofs.Common.{Option, Some, None, refl, sym, ap, subst, ◌∙◌, arith, inl, inr}
 use Rattle.std.proofs.lemmas.Bool.{and_parts, cases_lt}
 use Rattle.std.proofs.lemmas.Bool.Decides.{nat_tests}
 use Rattle.codes.specs.Order.{Ascends, IsFirstReaching}
 use Rattle.codes.specs.declared.code_points.TheConstants.{CODES}
+use Rattle.variation_sequences.specs.Inside.{IsNextCode}
 use Rattle.variation_sequences.specs.Order.{has_code, is_above, is_ascending, member_with}
 use Rattle.variation_sequences.proofs.PlaceLemmas.{all_at, find_no_place, find_place}
 
@@ -84,3 +85,43 @@ no_member first last n c i t r b =
                 has_below first last c k (subst (λ (m : ℕ). c < first m) same below)
           ]
     ])
+
+-- the least code that a member has
+reaching_on : (first last : ℕ → ℕ) (n from c i : ℕ) → IsFirstReaching last n from i → from ≤ c
+    → (i < n → c ≤ last i) → IsFirstReaching last n c i
+reaching_on first last n from c i r h l = record {
+  within = r.within;
+  before = λ k x. omega (arith, r.before k x, h);
+  here = l;
+}
+
+pub next_past : (first last : ℕ → ℕ) (n from i : ℕ) → is_ascending first last n ≡ true
+    → IsFirstReaching last n from i → n ≤ i → IsNextCode first last n from i CODES
+next_past first last n from i t r h = record {
+  within = omega arith;
+  from_on = λ x. absurd (omega (arith, x));
+  passed = λ c x y.
+      no_member first last n c i t
+      (reaching_on first last n from c i r x (λ z. absurd (omega (arith, z, h)))) (λ z. absurd (omega (arith, z, h)));
+  here = λ x. absurd (omega (arith, x));
+  there = λ x. absurd (omega (arith, x));
+}
+
+pub next_here : (first last : ℕ → ℕ) (n from i code : ℕ) → is_ascending first last n ≡ true
+    → IsFirstReaching last n from i → i < n → code ≡ max from (first i) → IsNextCode first last n from i code
+next_here first last n from i code t r h e =
+    let member = stands first last n i t h in
+    let reaches = r.here h in
+    let from_on : from ≤ code = omega (arith, e) in
+    let begins : first i ≤ code = omega (arith, e) in
+    let inside : code ≤ last i = omega (arith, e, reaches, member.codes) in
+    record {
+      within = omega (arith, inside, member.within);
+      from_on = λ x. from_on;
+      passed = λ c x y.
+          let below : c < first i = omega (arith, e, x, y) in
+          no_member first last n c i t
+          (reaching_on first last n from c i r x (λ z. omega (arith, below, member.codes))) (λ z. below);
+      here = λ x. member_at first last n code i (reaching_on first last n from code i r from_on (λ z. inside)) h begins;
+      there = λ x. h;
+    }

@@ -41,15 +41,19 @@ unfoldable pub sequence_of : List ℕ → (ℕ → ℕ) → ℕ → ℕ → ℕ 
 sequence_of cmap of_code n v c =
     variant_glyph n (of_code c) (option_and_then (λ s. variant_of s v c) (subtable_of cmap))
 
--- what record k has, in order of the codes, from one of them on
-unfoldable pub entries_under_from : List ℕ → ℕ → ℕ → List Entry
-entries_under_from s k from =
-    filter_map (λ c. option_map (λ x. record { selector = selector_at s k; code = c; variant = x })
-    (variant_under s k c)) (range_with_len from (CODES - from))
+-- what the tables of a selector have, in order of the codes, from one on
+unfoldable pub entries_in : ℕ → List ℕ → List ℕ → ℕ → List Entry
+entries_in v t u from =
+    filter_map (λ c. option_map (λ x. record { selector = v; code = c; variant = x }) (variant_in t u c))
+    (range_with_len from (CODES - from))
 
--- what records from k on have
+-- what record k has
+abbrev pub entries_of_record : List ℕ → ℕ → List Entry
+entries_of_record s k = entries_in (selector_at s k) (ranges_of s k) (mappings_of s k) 0
+
+-- what the records from one on have
 unfoldable pub entries_from : List ℕ → ℕ → List Entry
-entries_from s k = flat_map (λ j. entries_under_from s j 0) (range_with_len k (selector_count s - k))
+entries_from s k = flat_map (entries_of_record s) (range_with_len k (selector_count s - k))
 
 -- all that a subtable has, in order of selectors and codes
 unfoldable pub entries_of : List ℕ → List Entry

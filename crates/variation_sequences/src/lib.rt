@@ -3,6 +3,7 @@
 #![tactic(auto)]
 
 mod encoding;
+mod entries;
 mod lists;
 mod order;
 mod sequences;

@@ -1,6 +1,6 @@
 //! The lists of a subtable: records, ranges and mappings. OpenType 1.9, cmap, Format 14: Unicode variation sequences.
 ghost use Rattle.std.specs.Prelude.{◌≡◌, ◌+◌, ◌*◌, ◌<◌, ◌≤◌, ◌^◌, length};
-ghost use Rattle.variation_sequences.specs.Format14.{list_at, list_count, mapping_glyph, mappings_of, range_more, ranges_of, selector_count, u24_at};
+ghost use Rattle.variation_sequences.specs.Format14.{list_at, list_count, mapping_glyph, mappings_of, range_more, ranges_of, selector_at, selector_count, u24_at};
 
 use crate::order::Spans;
 use codes::Ends;
@@ -43,6 +43,15 @@ pub(crate) fn count_selectors(s: &[u8]) -> usize
     ensures small { result < 2 ^ 32 }
 {
     be32(s, 6) as usize
+}
+
+/// Returns the selector of a record.
+#[tactic(auto, unfolding(crate::specs::Format14::selector_at))]
+pub(crate) fn read_selector(s: &[u8], k: usize) -> u32
+    requires { 21 + 11 * k ≤ length s.now }
+    ensures { result ≡ selector_at s.now k }
+{
+    be24(s, HEADER + RECORD * k)
 }
 
 /// Returns the number with which a list begins.
@@ -126,9 +135,8 @@ impl<'a> Ends for Selectors<'a> {
         count_selectors(self.bytes)
     }
 
-    #[tactic(auto, unfolding(crate::specs::Format14::selector_at))]
     fn end_at(&self, i: usize) -> u32 {
-        be24(self.bytes, HEADER + RECORD * i)
+        read_selector(self.bytes, i)
     }
 }
 

@@ -1,6 +1,7 @@
 //! Members of a list in order of their codes. OpenType 1.9, cmap, Format 14: Unicode variation sequences.
 ghost use Rattle.std.specs.Prelude.{◌≡◌, ◌<◌, IfSome, ℕ, true};
 ghost use Rattle.codes.specs.Order.{IsFirstReaching};
+ghost use Rattle.variation_sequences.specs.Inside.{IsNextCode};
 ghost use Rattle.variation_sequences.specs.Order.{is_above, is_ascending, member_with};
 
 use codes::{ANYWHERE, CODES, Ends, first_reaching};
@@ -66,4 +67,17 @@ pub(crate) fn find_member<S: Spans>(spans: &S, code: u32) -> Option<usize>
     ensures within { IfSome result (λ k. k < S.count_of spans.now) }
 {
     member_at(spans, place_near(spans, ANYWHERE, code), code)
+}
+
+/// Returns the least code, from `from` on, that a member has, or `CODES` where there is none. The member stands at this
+/// place.
+pub(crate) fn next_code<S: Spans>(spans: &S, place: usize, from: u32) -> u32
+    requires order { is_ascending (S.first_of spans.now) (S.end_of spans.now) (S.count_of spans.now) ≡ true }
+    requires place { IsFirstReaching (S.end_of spans.now) (S.count_of spans.now) from place }
+    ensures { IsNextCode (S.first_of spans.now) (S.end_of spans.now) (S.count_of spans.now) from place result }
+{
+    if spans.count() <= place {
+        return CODES;
+    }
+    from.max(spans.first_at(place))
 }
