@@ -1,4 +1,5 @@
 pub mod ByteLemmas
+pub mod CountLemmas
 pub mod EntryLemmas
 pub mod OrderLemmas
 pub mod PlaceLemmas

@@ -1,14 +1,17 @@
 //! All that a subtable says, in order of selectors and codes. OpenType 1.9, cmap, Format 14: Unicode variation
 //! sequences.
-ghost use Rattle.std.specs.Prelude.{◌≡◌, MatchOption, true};
+ghost use Rattle.std.specs.Prelude.{◌≡◌, [], MatchOption, true};
 ghost use Rattle.std.specs.Iterator.{YieldsFirst, item_count};
 ghost use Rattle.codes.specs.Order.{IsFirstReaching};
 ghost use Rattle.variation_sequences.specs.Format14.{list_count, mapping_code, range_first, range_last};
 ghost use Rattle.variation_sequences.specs.Inside.{IsFirstVariant, IsRecord, NoVariant};
 ghost use Rattle.variation_sequences.specs.Order.{is_ascending};
-ghost use Rattle.variation_sequences.specs.Sequences.{entries_of_record};
+ghost use Rattle.variation_sequences.specs.Sequences.{entries_of, entries_of_record};
+ghost use Rattle.variation_sequences.specs.Strict.{is_strict};
 
-use crate::lists::{Mappings, Ranges, mappings_of, ranges_of, read_selector};
+use crate::lists::{
+    Mappings, NO_LIST, Ranges, count_selectors, mappings_of, ranges_of, read_selector,
+};
 use crate::order::{next_code, place_near};
 use crate::variant::{Entry, Variant};
 use codes::CODES;
@@ -72,6 +75,20 @@ impl<'a> Model for RecordEntries<'a> {
 }
 
 impl<'a> RecordEntries<'a> {
+    // Returns nothing.
+    fn none() -> RecordEntries<'a>
+        ensures { result ≡ [] }
+    {
+        RecordEntries {
+            selector: 0,
+            ranges: Ranges::of(NO_LIST),
+            mappings: Mappings::of(NO_LIST),
+            from: CODES,
+            range: 0,
+            mapping: 0,
+        }
+    }
+
     // Returns what a record says.
     fn of(s: &'a [u8], k: usize) -> RecordEntries<'a>
         requires { IsRecord s.now k }
@@ -111,5 +128,65 @@ impl<'a> Iterator for RecordEntries<'a> {
             code,
             variant,
         })
+    }
+}
+
+/// All that a subtable says, in order of selectors and codes.
+#[derive(Drop)]
+pub struct Entries<'a> {
+    bytes: &'a [u8],
+    now: RecordEntries<'a>,
+    // How many records were begun.
+    begun: usize,
+}
+
+// Its value is the list of entries that are left.
+impl<'a> Model for Entries<'a> {
+    ghost use Rattle.std.specs.Prelude.{◌≡◌, ◌++◌, List, true};
+    ghost use Rattle.variation_sequences.specs.Sequences.{entries_from};
+    ghost use Rattle.variation_sequences.specs.Strict.{is_strict};
+    ghost use Rattle.variation_sequences.specs.declared.variant.Entry.{Entry};
+
+    ghost Value = { List Entry };
+
+    ghost view = { λ e. e.now ++ entries_from e.bytes.now e.begun };
+
+    ghost invariant = { λ e. is_strict e.bytes.now ≡ true };
+}
+
+impl<'a> Entries<'a> {
+    /// Returns all that a subtable says.
+    pub(crate) fn of(bytes: &'a [u8]) -> Entries<'a>
+        requires { is_strict bytes.now ≡ true }
+        ensures { result ≡ entries_of bytes.now }
+    {
+        Entries {
+            bytes,
+            now: RecordEntries::none(),
+            begun: 0,
+        }
+    }
+}
+
+impl<'a> Iterator for Entries<'a> {
+    type Item = Entry;
+
+    ghost next_gives = { YieldsFirst (λ s. s) };
+
+    ghost remaining = { item_count (λ s. s) };
+
+    fn next(&mut self) -> Option<Entry> {
+        let s = self.bytes;
+        let count = count_selectors(s);
+        loop {
+            if let Some(entry) = self.now.next() {
+                return Some(entry);
+            }
+            if count <= self.begun {
+                return None;
+            }
+            self.now = RecordEntries::of(s, self.begun);
+            self.begun += 1;
+        }
     }
 }

@@ -10,5 +10,6 @@ mod sequences;
 mod strict;
 mod variant;
 
+pub use crate::entries::Entries;
 pub use crate::sequences::Sequences;
 pub use crate::variant::{Entry, Variant, variant_glyph};

@@ -23,7 +23,7 @@ pub(crate) const RANGE: usize = 4;
 pub(crate) const MAPPING: usize = 5;
 
 /// The list that the offset 0 stands for: its count is 0.
-const NO_LIST: &[u8] = &[0, 0, 0, 0];
+pub(crate) const NO_LIST: &[u8] = &[0, 0, 0, 0];
 
 // Returns the big-endian `u24` at the byte `at`.
 #[tactic(auto, unfolding(crate::specs::Format14::u24_at))]

@@ -1,10 +1,12 @@
 //! The variation sequences of a font. OpenType 1.9, cmap, Format 14: Unicode variation sequences.
-ghost use Rattle.std.specs.Prelude.{◌≡◌};
+ghost use Rattle.std.specs.Prelude.{◌≡◌, ◌≤◌, length};
 ghost use Rattle.variation_sequences.specs.Encoding.{subtable_of};
 ghost use Rattle.variation_sequences.specs.Inside.{IsRecord};
-ghost use Rattle.variation_sequences.specs.Sequences.{variant_of, variant_under};
+ghost use Rattle.variation_sequences.specs.declared.strict.TheConstants.{MAX_ENTRIES};
+ghost use Rattle.variation_sequences.specs.Sequences.{entries_of, variant_of, variant_under};
 
 use crate::encoding::listed_subtable;
+use crate::entries::Entries;
 use crate::lists::{Mappings, Ranges, Selectors, mappings_of, ranges_of};
 use crate::order::find_member;
 use crate::strict::is_strict;
@@ -51,6 +53,15 @@ impl<'a> Sequences<'a> {
         let s = self.bytes;
         let k = find_member(&Selectors::of(s), selector)?;
         find_under(s, k, code)
+    }
+
+    /// Returns all that is said, in order of selectors and codes. There are 1,048,576 entries at most.
+    #[tactic(auto, using(crate::proofs::CountLemmas::few_entries))]
+    pub fn entries(&self) -> Entries<'a>
+        ensures value { result ≡ entries_of self.now }
+        ensures count { length result ≤ MAX_ENTRIES }
+    {
+        Entries::of(self.bytes)
     }
 }
 
