@@ -4,3 +4,4 @@ pub mod Inside
 pub mod Order
 pub mod Sequences
 pub mod Strict
+pub mod Written

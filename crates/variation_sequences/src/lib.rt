@@ -5,11 +5,13 @@
 mod encoding;
 mod entries;
 mod lists;
+mod made;
 mod order;
 mod sequences;
 mod strict;
 mod variant;
 
 pub use crate::entries::Entries;
+pub use crate::made::{made_size, make_subtable};
 pub use crate::sequences::Sequences;
-pub use crate::variant::{Entry, Variant, variant_glyph};
+pub use crate::variant::{Entry, Pair, Variant, variant_glyph};

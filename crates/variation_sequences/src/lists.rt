@@ -14,7 +14,7 @@ pub(crate) const HEADER: usize = 10;
 pub(crate) const RECORD: usize = 11;
 
 /// How many bytes stand before ranges and mappings.
-const COUNT: usize = 4;
+pub(crate) const COUNT: usize = 4;
 
 /// How many bytes a range has.
 pub(crate) const RANGE: usize = 4;

@@ -22,6 +22,17 @@ pub struct Entry {
     pub variant: Variant,
 }
 
+/// One selector and one code with the glyph that is drawn for both.
+#[derive(Clone, Copy, Debug, PartialEq, Eq)]
+pub struct Pair {
+    /// varSelector
+    pub selector: u32,
+    /// The code that the selector stands after.
+    pub code: u32,
+    /// The glyph.
+    pub glyph: u16,
+}
+
 /// Returns the glyph of what a subtable says among so many glyphs, 0 where there is none. `of_code` is the glyph of the
 /// code in the map of the font.
 pub fn variant_glyph(found: Option<Variant>, of_code: u16, glyphs: u16) -> u16
