@@ -43,7 +43,7 @@ listed_few h p q (c ∷ cs) f =
         | inl b ↦ let here : one (q c) ≡ 1 = ap one b in omega (arith, rest, first, second, most, here)
         | inr b ↦
             let same : length (filter_map h (c ∷ cs)) ≡ length (filter_map h cs) =
-                ap (λ o. length (cons_option o (filter_map h cs))) (f c a b) in
+            ap (λ o. length (cons_option o (filter_map h cs))) (f c a b) in
             omega (arith, rest, first, second, same)
       ]
     ]
@@ -75,8 +75,15 @@ either_count : (p q r : ℕ → Bool) (cs : List ℕ) → ((c : ℕ) → r c ≡
     → count_by r cs ≤ count_by p cs + count_by q cs
 either_count p q r [] f = omega arith
 either_count p q r (c ∷ cs) f =
-    omega (arith, either_count p q r cs f, sum_by-cons (λ x. one (p x)) c cs, sum_by-cons (λ x. one (q x)) c cs,
-    sum_by-cons (λ x. one (r x)) c cs, ap one (f c), either_one (p c) (q c))
+    omega (
+      arith,
+      either_count p q r cs f,
+      sum_by-cons (λ x. one (p x)) c cs,
+      sum_by-cons (λ x. one (q x)) c cs,
+      sum_by-cons (λ x. one (r x)) c cs,
+      ap one (f c),
+      either_one (p c) (q c),
+    )
   where
     either_one : (a b : Bool) → one (a || b) ≤ one a + one b
     either_one true b = omega arith
@@ -98,20 +105,27 @@ members_codes first last [] from n = none (range_with_len from n)
     none [] = omega arith
     none (c ∷ cs) = omega (arith, none cs, sum_by-cons (λ x. one false) c cs)
 members_codes first last (i ∷ is) from n =
-    omega (arith, members_codes first last is from n, codes_of (first i) (last i) from n,
-    sum_by-cons (λ k. (last k + 1) - first k) i is,
-    either_count (λ c. has_code first last c i) (λ c. is_some (find (has_code first last c) is))
-    (λ c. is_some (find (has_code first last c) (i ∷ is))) (range_with_len from n)
-    (λ c. found_cons (has_code first last c) i is))
+    omega (
+      arith,
+      members_codes first last is from n,
+      codes_of (first i) (last i) from n,
+      sum_by-cons (λ k. (last k + 1) - first k) i is,
+      either_count (λ c. has_code first last c i) (λ c. is_some (find (has_code first last c) is))
+          (λ c. is_some (find (has_code first last c) (i ∷ is))) (range_with_len from n)
+          (λ c. found_cons (has_code first last c) i is),
+    )
 
 -- so of two tables
 ranges_few : (t : List ℕ) (from n : ℕ)
     → count_by (λ c. is_some (range_with t c)) (range_with_len from n) ≤ codes_in t
 unfolding codes_in member_with
 ranges_few t from n =
-    omega (arith, members_codes (range_first t) (range_last t) (range_with_len 0 (list_count t)) from n,
-    sum_by-le-sum_by (λ i. (range_last t i + 1) - range_first t i) (λ i. range_more t i + 1)
-    (range_with_len 0 (list_count t)) (λ i. omega arith))
+    omega (
+      arith,
+      members_codes (range_first t) (range_last t) (range_with_len 0 (list_count t)) from n,
+      sum_by-le-sum_by (λ i. (range_last t i + 1) - range_first t i) (λ i. range_more t i + 1)
+          (range_with_len 0 (list_count t)) (λ i. omega arith),
+    )
 
 ones : (n a : ℕ) → sum_by (λ i. 1) (range_with_len a n) ≡ n
 ones zero a = refl
@@ -121,9 +135,13 @@ mappings_few : (u : List ℕ) (from n : ℕ)
     → count_by (λ c. is_some (mapping_with u c)) (range_with_len from n) ≤ list_count u
 unfolding member_with
 mappings_few u from n =
-    omega (arith, members_codes (mapping_code u) (mapping_code u) (range_with_len 0 (list_count u)) from n,
-    sum_by-le-sum_by (λ j. (mapping_code u j + 1) - mapping_code u j) (λ j. 1)
-    (range_with_len 0 (list_count u)) (λ j. omega arith), ones (list_count u) 0)
+    omega (
+      arith,
+      members_codes (mapping_code u) (mapping_code u) (range_with_len 0 (list_count u)) from n,
+      sum_by-le-sum_by (λ j. (mapping_code u j + 1) - mapping_code u j) (λ j. 1)
+          (range_with_len 0 (list_count u)) (λ j. omega arith),
+      ones (list_count u) 0,
+    )
 
 nothing_said : (t u : List ℕ) (c : ℕ) → is_some (range_with t c) ≡ false → is_some (mapping_with u c) ≡ false
     → variant_in t u c ≡ None
@@ -138,10 +156,14 @@ tables_few : (v : ℕ) (t u : List ℕ) (from n : ℕ)
     → length (filter_map (λ c. option_map (λ x. entry v c x) (variant_in t u c)) (range_with_len from n))
     ≤ codes_in t + list_count u
 tables_few v t u from n =
-    omega (arith, ranges_few t from n, mappings_few u from n,
-    listed_few (λ c. option_map (λ x. entry v c x) (variant_in t u c)) (λ c. is_some (range_with t c))
-    (λ c. is_some (mapping_with u c)) (range_with_len from n)
-    (λ c a b. ap (option_map (λ x. entry v c x)) (nothing_said t u c a b)))
+    omega (
+      arith,
+      ranges_few t from n,
+      mappings_few u from n,
+      listed_few (λ c. option_map (λ x. entry v c x) (variant_in t u c)) (λ c. is_some (range_with t c))
+          (λ c. is_some (mapping_with u c)) (range_with_len from n)
+          (λ c a b. ap (option_map (λ x. entry v c x)) (nothing_said t u c a b)),
+    )
 
 -- a variable in place of 0 keeps the list of all codes from being computed
 in_few : (v : ℕ) (t u : List ℕ) (from : ℕ) → length (entries_in v t u from) ≤ codes_in t + list_count u

@@ -159,5 +159,5 @@ pub ends : (s : List ℕ) (k : ℕ) (now next rest : List Entry) → now ++ entr
 ends s k now next rest left none after h =
     let past = from_end s k h in
     let all : (xs : List Entry) → xs ≡ [] → xs ++ entries_from s k ≡ [] =
-        λ (xs : List Entry) (e : xs ≡ []). (λ i. e i ++ past i) in
+    λ (xs : List Entry) (e : xs ≡ []). (λ i. e i ++ past i) in
     (sym left ∙ all now none, all next after)

@@ -34,13 +34,13 @@ group_first p (q ∷ qs) =
       | inl t ↦
           let same : q.selector ≡ p.selector = eqb-true _ _ t in
           let count : prefix_len (of_selector p.selector) (q ∷ qs) ≡ suc (prefix_len (of_selector p.selector) qs) =
-              ap (λ b. cond b (1 + prefix_len (of_selector p.selector) qs) 0) t ∙ omega arith in
+          ap (λ b. cond b (1 + prefix_len (of_selector p.selector) qs) 0) t ∙ omega arith in
           ap (with_pair p) rest ∙ joins p q (take more qs) (grouped (drop more qs)) same
           ∙ ap (λ (v : ℕ). split_at p (q ∷ qs) (suc (prefix_len (of_selector v) qs))) same
           ∙ ap (split_at p (q ∷ qs)) (sym count)
       | inr f ↦
           let count : prefix_len (of_selector p.selector) (q ∷ qs) ≡ 0 =
-              ap (λ b. cond b (1 + prefix_len (of_selector p.selector) qs) 0) f in
+          ap (λ b. cond b (1 + prefix_len (of_selector p.selector) qs) 0) f in
           ap (with_pair p) rest ∙ stays p q (take more qs) (grouped (drop more qs)) (eqb-false _ _ f)
           ∙ ap (λ (groups : List (List Pair)). (p ∷ []) ∷ groups) (sym rest)
           ∙ ap (split_at p (q ∷ qs)) (sym count)
@@ -53,8 +53,8 @@ group_split [] front back n v some first count before after = absurd (omega (ari
 group_split (p ∷ ps) front back n v some first count before after =
     let here : eqb p.selector v ≡ true = eq-eqb _ _ (sym first) in
     let one_more : n ≡ suc (prefix_len (of_selector p.selector) ps) =
-        count ∙ ap (λ b. cond b (1 + prefix_len (of_selector v) ps) 0) here
-        ∙ ap (λ (w : ℕ). 1 + prefix_len (of_selector w) ps) first ∙ omega arith in
+    count ∙ ap (λ b. cond b (1 + prefix_len (of_selector v) ps) 0) here
+    ∙ ap (λ (w : ℕ). 1 + prefix_len (of_selector w) ps) first ∙ omega arith in
     group_first p ps
     ∙ sym ((λ i. before i ∷ grouped (after i)) ∙ ap (λ (k : ℕ). take k (p ∷ ps) ∷ grouped (drop k (p ∷ ps))) one_more)
 

@@ -34,7 +34,7 @@ begins_after first last n i (suc j) t h l =
     let here = stands first last n (suc j) t l in
     let before_it : suc j - 1 ≡ j = omega arith in
     let above : last j < first (suc j) =
-        subst (λ (k : ℕ). last k < first (suc j)) before_it (here.above (omega arith)) in
+    subst (λ (k : ℕ). last k < first (suc j)) before_it (here.above (omega arith)) in
     elim (cases_lt i j) [
       | inl z ↦
           let before = begins_after first last n i j t z (omega (arith, l)) in

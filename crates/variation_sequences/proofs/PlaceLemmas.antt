@@ -29,7 +29,7 @@ pub find_no_place : (p : ℕ → Bool) (n : ℕ) → ((k : ℕ) → k < n → p 
 find_no_place p n all_fail =
     find_none p 0 (range_with_len 0 n)
     (λ k l. let low : k < n = omega (arith, l, length-range_with_len 0 n) in
-        ap p (get_or-range_with_len 0 n k 0 low ∙ omega arith) ∙ all_fail k low)
+    ap p (get_or-range_with_len 0 n k 0 low ∙ omega arith) ∙ all_fail k low)
 
 -- tests of places from one on: the test of that one, and those of the places after it
 pub all_step : (p : ℕ → Bool) (n j : ℕ) → j < n → p j ≡ true
@@ -68,7 +68,7 @@ sum_fewer f zero i h = absurd (omega (arith, h))
 sum_fewer f (suc n) i h =
     let more : n + 1 ≡ suc n = omega arith in
     let whole : sum_by f (range_with_len 0 (suc n)) ≡ sum_by f (range_with_len 0 n) + f n =
-        ap (λ (k : ℕ). sum_by f (range_with_len 0 k)) (sym more) ∙ sum_more f n in
+    ap (λ (k : ℕ). sum_by f (range_with_len 0 k)) (sym more) ∙ sum_more f n in
     elim (cases_lt i n) [
       | inl z ↦ omega (arith, sum_fewer f n i z, whole)
       | inr z ↦

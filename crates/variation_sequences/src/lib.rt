@@ -15,3 +15,6 @@ pub use crate::entries::Entries;
 pub use crate::made::{made_size, make_subtable};
 pub use crate::sequences::Sequences;
 pub use crate::variant::{Entry, Pair, Variant, variant_glyph};
+
+#[cfg(test)]
+mod tests;

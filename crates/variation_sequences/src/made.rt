@@ -26,11 +26,7 @@ fn push_u24<A: Memory>(made: &mut Vec<u8, A>, x: u32) -> Result<(), NoMemory>
     ensures made { OnOk result (made.new.items ≡ made.old.items ++ u24_bytes x) }
     ensures memory { OnErr result (IsRefused A.refuses) }
 {
-    let bytes = [
-        (x / 65536) as u8,
-        (x / 256 % 256) as u8,
-        (x % 256) as u8,
-    ];
+    let bytes = [(x / 65536) as u8, (x / 256 % 256) as u8, (x % 256) as u8];
     A::append(made, &bytes)
 }
 

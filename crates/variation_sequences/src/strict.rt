@@ -7,8 +7,8 @@ ghost use Rattle.variation_sequences.specs.Order.{is_ascending};
 ghost use Rattle.variation_sequences.specs.Strict.{codes_in, entries_under, entry_count, has_lists, has_ordered_lists, has_ordered_selectors, is_apart, is_strict};
 
 use crate::lists::{
-    HEADER, MAPPING, Mappings, RANGE, RECORD, Ranges, Selectors, count_list, count_selectors, mappings_of,
-    ranges_of,
+    HEADER, MAPPING, Mappings, RANGE, RECORD, Ranges, Selectors, count_list, count_selectors,
+    mappings_of, ranges_of,
 };
 use crate::order::{is_ascending, member_at, place_near};
 use codes::Ends;

@@ -41,12 +41,6 @@ pub fn variant_glyph(found: Option<Variant>, of_code: u16, glyphs: u16) -> u16
     match found {
         None => 0,
         Some(Variant::Unchanged) => of_code,
-        Some(Variant::Glyph(glyph)) => {
-            if glyph < glyphs {
-                glyph
-            } else {
-                0
-            }
-        }
+        Some(Variant::Glyph(glyph)) => { if glyph < glyphs { glyph } else { 0 } }
     }
 }

@@ -7,5 +7,9 @@ use Rattle.variation_sequences.proofs.strict.entries_under.Goals as goal
 pub returns-then-most-count_list : goal.returns-then-most-count_list
 unfolding entries_under
 returns-then-most-count_list c =
-    omega (arith, codes_least (ranges_of c.args.s.now c.args.k), ap list_count c.ranges_of-ranges.ensures,
-    ap list_count c.mappings_of.ensures)
+    omega (
+      arith,
+      codes_least (ranges_of c.args.s.now c.args.k),
+      ap list_count c.ranges_of-ranges.ensures,
+      ap list_count c.mappings_of.ensures,
+    )

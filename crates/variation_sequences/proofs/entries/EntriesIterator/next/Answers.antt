@@ -12,8 +12,8 @@ pub returns-then-count-self-clause-steps : goal.returns-then-count-self-clause-s
 returns-then-count-self-clause-steps c =
     let count = ap selector_count c.loop-entry.invariant.bytes in
     let nothing =
-        ends _ _ _ _ _ c.loop-entry.invariant.left c.in_default.ensures.steps.0 c.in_default.ensures.steps.1
-        (omega (arith, count, c.count_selectors-count.ensures.value)) in
+    ends _ _ _ _ _ c.loop-entry.invariant.left c.in_default.ensures.steps.0 c.in_default.ensures.steps.1
+    (omega (arith, count, c.count_selectors-count.ensures.value)) in
     (sym c.self.view_is ∙ nothing.0, nothing.1)
 
 pub of-self-inside-requires : goal.of-self-inside-requires
