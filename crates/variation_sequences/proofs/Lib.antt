@@ -1,6 +1,7 @@
 pub mod ByteLemmas
 pub mod CountLemmas
 pub mod EntryLemmas
+pub mod FoundLemmas
 pub mod GroupLemmas
 pub mod OrderLemmas
 pub mod PlaceLemmas

@@ -1,6 +1,7 @@
 pub mod Encoding
 pub mod Format14
 pub mod Inside
+pub mod Laws
 pub mod Order
 pub mod Sequences
 pub mod Strict

@@ -1,6 +1,6 @@
 -- The variation sequences of a font: a map from selector and code to a glyph (OpenType 1.9, cmap, Format 14: Unicode
 -- variation sequences).
-use Rattle.std.specs.Prelude.{ℕ, ◌+◌, ◌-◌, nat_lt, List, [], ◌++◌, is_some, if◌then◌else◌, Option, None, Some}
+use Rattle.std.specs.Prelude.{ℕ, ◌-◌, nat_eq, nat_lt, Bool, ◌&&◌, List, is_some, if◌then◌else◌, Option, None, Some}
 use Rattle.std.specs.List.{filter_map, flat_map, range_with_len}
 use Rattle.std.specs.Option.{option_and_then, option_map}
 use Rattle.codes.specs.declared.code_points.TheConstants.{CODES}
@@ -58,3 +58,7 @@ entries_from s k = flat_map (entries_of_record s) (range_with_len k (selector_co
 -- all that a subtable has, in order of selectors and codes
 unfoldable pub entries_of : List ℕ → List Entry
 entries_of s = entries_from s 0
+
+-- an entry is of a selector and a code
+abbrev pub is_of : ℕ → ℕ → Entry → Bool
+is_of v c e = nat_eq e.selector v && nat_eq e.code c

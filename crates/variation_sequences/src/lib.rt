@@ -4,6 +4,7 @@
 
 mod encoding;
 mod entries;
+mod laws;
 mod lists;
 mod made;
 mod order;
@@ -12,6 +13,7 @@ mod strict;
 mod variant;
 
 pub use crate::entries::Entries;
+pub use crate::laws::found_is_listed;
 pub use crate::made::{made_size, make_subtable};
 pub use crate::sequences::Sequences;
 pub use crate::variant::{Entry, Pair, Variant, variant_glyph};

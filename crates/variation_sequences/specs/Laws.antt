@@ -1,0 +1,11 @@
+-- Laws of variation sequences, this project's own, each of them the contract of a function.
+use Rattle.std.specs.Prelude.{◌≡◌, ℕ, true, List, find}
+use Rattle.std.specs.Option.{option_map}
+use Rattle.variation_sequences.specs.Sequences.{entries_of, is_of, variant_of}
+use Rattle.variation_sequences.specs.Strict.{is_strict}
+
+-- what is said of a selector and a code is what is listed for them
+abbrev pub FoundIsListed : Type 0
+FoundIsListed =
+    (s : List ℕ) (v c : ℕ) → is_strict s ≡ true
+    → variant_of s v c ≡ option_map (λ e. e.variant) (find (is_of v c) (entries_of s))
