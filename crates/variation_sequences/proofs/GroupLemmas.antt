@@ -1,7 +1,7 @@
 -- Pairs by their selectors.
 use Rattle.std.proofs.Common.{◌≡◌, ℕ, suc, ◌+◌, ◌<◌, Bool, true, false, cond, eqb}
 use Rattle.std.proofs.Common.{List, [], ◌∷◌, length, get_or, take, drop, refl, sym, ap, subst, ◌∙◌, arith, inl, inr}
-use Rattle.std.specs.List.{prefix_len}
+use Rattle.std.specs.List.{flat_map, prefix_len}
 use Rattle.std.proofs.lemmas.Bool.{cases_Bool, eq-eqb, eqb-false, eqb-true, ne_eqb}
 use Rattle.variation_sequences.specs.Written.{grouped, selector_of, with_pair}
 use Rattle.variation_sequences.specs.declared.variant.Pair.{Pair}
@@ -73,3 +73,19 @@ some_in_front (p ∷ ps) v some first =
 pub some_of : (pairs : List Pair) (v n m : ℕ) → 0 < length pairs → v ≡ selector_of pairs
     → n ≡ prefix_len (of_selector v) pairs → m ≡ n → 0 < m
 some_of pairs v n m some first count size = omega (arith, some_in_front pairs v some first, count, size)
+
+-- the groups of pairs are these pairs
+joined : (p : Pair) (groups : List (List Pair)) → flat_map (λ g. g) (with_pair p groups) ≡ p ∷ flat_map (λ g. g) groups
+joined p [] = refl
+joined p ([] ∷ groups) = refl
+joined p ((q ∷ qs) ∷ groups) = either (eqb p.selector q.selector)
+  where
+    either : (b : Bool)
+        → flat_map (λ g. g) (cond b ((p ∷ q ∷ qs) ∷ groups) ((p ∷ []) ∷ (q ∷ qs) ∷ groups))
+        ≡ p ∷ flat_map (λ g. g) ((q ∷ qs) ∷ groups)
+    either true = refl
+    either false = refl
+
+pub all_grouped : (pairs : List Pair) → flat_map (λ g. g) (grouped pairs) ≡ pairs
+all_grouped [] = refl
+all_grouped (p ∷ ps) = joined p (grouped ps) ∙ ap (λ (qs : List Pair). p ∷ qs) (all_grouped ps)

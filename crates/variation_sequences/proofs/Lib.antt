@@ -5,4 +5,6 @@ pub mod FoundLemmas
 pub mod GroupLemmas
 pub mod OrderLemmas
 pub mod PlaceLemmas
+pub mod ReadLemmas
 pub mod StrictLemmas
+pub mod WrittenLemmas
