@@ -5,6 +5,7 @@ pub mod FoundLemmas
 pub mod GroupLemmas
 pub mod OrderLemmas
 pub mod PlaceLemmas
+pub mod ReadBackLemmas
 pub mod ReadLemmas
 pub mod StrictLemmas
 pub mod WrittenLemmas

@@ -13,7 +13,7 @@ mod strict;
 mod variant;
 
 pub use crate::entries::Entries;
-pub use crate::laws::{found_is_listed, made_has_size};
+pub use crate::laws::{found_is_listed, made_has_size, made_is_read_back};
 pub use crate::made::{made_size, make_subtable};
 pub use crate::sequences::Sequences;
 pub use crate::variant::{Entry, Pair, Variant, variant_glyph};
