@@ -8,9 +8,10 @@ use Rattle.std.proofs.lemmas.Bool.{and_parts, cases_Bool, leb-true}
 use Rattle.std.proofs.lemmas.Bool.Decides.{nat_tests}
 use Rattle.std.proofs.lemmas.List.Sums.{sum_by-cons, sum_by-le-sum_by}
 use Rattle.codes.specs.declared.code_points.TheConstants.{CODES}
-use Rattle.variation_sequences.specs.Format14.{list_count, mapping_code, mappings_of, range_first, range_last, range_more}
+use Rattle.variation_sequences.specs.Format14.{list_count, mapping_code, mappings_of, range_first, range_last}
+use Rattle.variation_sequences.specs.Format14.{range_more}
 use Rattle.variation_sequences.specs.Format14.{mapping_glyph, ranges_of, selector_at, selector_count}
-use Rattle.variation_sequences.specs.Order.{has_code, member_with}
+use Rattle.variation_sequences.specs.Spans.{has_code, member_with}
 use Rattle.variation_sequences.specs.Sequences.{entries_from, entries_in, entries_of, entries_of_record, variant_in}
 use Rattle.variation_sequences.specs.Strict.{codes_in, entries_under, entry_count, is_strict, mapping_with, range_with}
 use Rattle.variation_sequences.specs.declared.strict.TheConstants.{MAX_ENTRIES}

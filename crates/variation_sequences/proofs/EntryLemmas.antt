@@ -9,7 +9,7 @@ use Rattle.codes.specs.declared.code_points.TheConstants.{CODES}
 use Rattle.variation_sequences.specs.Format14.{list_count, mapping_code, mapping_glyph, range_first, range_last}
 use Rattle.variation_sequences.specs.Format14.{selector_count}
 use Rattle.variation_sequences.specs.Inside.{IsFirstVariant, IsNextCode, NoVariant}
-use Rattle.variation_sequences.specs.Order.{is_above, is_ascending, member_with}
+use Rattle.variation_sequences.specs.Spans.{is_above, is_ascending, member_with}
 use Rattle.variation_sequences.specs.Sequences.{entries_from, entries_in, entries_of_record, variant_in}
 use Rattle.variation_sequences.specs.Strict.{mapping_with, range_with}
 use Rattle.variation_sequences.specs.declared.variant.Entry.{Entry}

@@ -1,6 +1,7 @@
 -- What is found is what is listed.
 use Rattle.std.proofs.Common.{◌≡◌, ℕ, zero, suc, ◌+◌, ◌-◌, ◌<◌, ◌≤◌, Bool, true, false, cond, eqb, ◌&&◌, ◌⊎◌, List, []}
-use Rattle.std.proofs.Common.{◌∷◌, ◌++◌, find, Option, Some, None, MatchOption, refl, sym, ap, subst, ◌∙◌, arith, inl, inr}
+use Rattle.std.proofs.Common.{◌∷◌, ◌++◌, find, Option, Some, None, MatchOption, refl, sym, ap, subst, ◌∙◌, arith, inl}
+use Rattle.std.proofs.Common.{inr}
 use Rattle.std.specs.List.{cons_option, filter_map, flat_map, range_with_len}
 use Rattle.std.specs.Option.{option_and_then, option_map, option_or}
 use Rattle.std.proofs.lemmas.Bool.{and_left, and_right, cases_Bool, cases_eq, cases_lt, eq-eqb, leb-true, and_parts}
@@ -8,17 +9,19 @@ use Rattle.std.proofs.lemmas.Bool.{ne_eqb}
 use Rattle.std.proofs.lemmas.Bool.Decides.{nat_tests}
 use Rattle.std.proofs.lemmas.List.Folds.{find-append}
 use Rattle.codes.specs.declared.code_points.TheConstants.{CODES}
-use Rattle.variation_sequences.specs.Format14.{list_count, mapping_code, mapping_glyph, mappings_of, range_first, range_last}
+use Rattle.variation_sequences.specs.Format14.{list_count, mapping_code, mapping_glyph, mappings_of, range_first}
+use Rattle.variation_sequences.specs.Format14.{range_last}
 use Rattle.variation_sequences.specs.Format14.{ranges_of, selector_at, selector_count}
 use Rattle.variation_sequences.specs.Inside.{IsRecord}
-use Rattle.variation_sequences.specs.Order.{has_code, is_ascending, member_with}
-use Rattle.variation_sequences.specs.Sequences.{entries_from, entries_in, entries_of, entries_of_record, is_of, record_with}
+use Rattle.variation_sequences.specs.Spans.{has_code, is_ascending, member_with}
+use Rattle.variation_sequences.specs.Sequences.{entries_from, entries_in, entries_of, entries_of_record, is_of}
+use Rattle.variation_sequences.specs.Sequences.{record_with}
 use Rattle.variation_sequences.specs.Sequences.{variant_in, variant_of, variant_under}
 use Rattle.variation_sequences.specs.Strict.{is_strict, mapping_with, range_with}
 use Rattle.variation_sequences.specs.declared.variant.Entry.{Entry}
 use Rattle.variation_sequences.specs.declared.variant.Variant.{Variant}
 use Rattle.variation_sequences.specs.declared.variant.Variant.TheVariants.{Glyph, Unchanged}
-use Rattle.variation_sequences.proofs.OrderLemmas.{begins_after, stands}
+use Rattle.variation_sequences.proofs.SpanLemmas.{begins_after, stands}
 use Rattle.variation_sequences.proofs.PlaceLemmas.{find_no_place, find_place}
 use Rattle.variation_sequences.proofs.StrictLemmas.{strict_record, strict_selectors}
 
@@ -59,7 +62,7 @@ in_past w v c from (suc n) t u h =
       | inr x ↦ absurd (omega (arith, e, x))
     ]) in
     let rest : (c < from + 1) ⊎ (from + 1 + n ≤ c) =
-        elim h [ inl x ↦ inl (omega (arith, x)) | inr x ↦ inr (omega (arith, x)) ] in
+    elim h [ inl x ↦ inl (omega (arith, x)) | inr x ↦ inr (omega (arith, x)) ] in
     passed w v from c (variant_in t u from) (filter_map (listed w t u) (range_with_len (from + 1) n))
     (and_right _ _ other) ∙ in_past w v c (from + 1) n t u rest
 
@@ -217,6 +220,7 @@ found_by s v c (Some m) t h =
   where
     selector_is : (j : ℕ) → has_code (selector_at s) (selector_at s) v j ≡ true → selector_at s j ≡ v
     selector_is j f = grind (arith, nat_tests)
+
     apart : (j : ℕ) → j < selector_count s → m < selector_count s → (j ≡ m → ⊥)
         → selector_at s j ≡ selector_at s m → ⊥
     apart j x y o e =

@@ -3,9 +3,9 @@ pub mod CountLemmas
 pub mod EntryLemmas
 pub mod FoundLemmas
 pub mod GroupLemmas
-pub mod OrderLemmas
 pub mod PlaceLemmas
 pub mod ReadBackLemmas
 pub mod ReadLemmas
+pub mod SpanLemmas
 pub mod StrictLemmas
 pub mod WrittenLemmas

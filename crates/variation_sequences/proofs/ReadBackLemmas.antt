@@ -1,6 +1,8 @@
 -- A subtable that is written is read back.
-use Rattle.std.proofs.Common.{◌≡◌, ℕ, zero, suc, ◌+◌, ◌-◌, ◌*◌, ◌<◌, ◌≤◌, Bool, true, false, cond, eqb, leb, ltb, not, ◌&&◌}
-use Rattle.std.proofs.Common.{◌||◌, ◌⊎◌, List, [], ◌∷◌, ◌++◌, get_or, length, map, max, take, find, Option, Some, None, refl, ap, subst}
+use Rattle.std.proofs.Common.{◌≡◌, ℕ, zero, suc, ◌+◌, ◌-◌, ◌*◌, ◌<◌, ◌≤◌, Bool, true, false, cond, eqb, leb, ltb, not}
+use Rattle.std.proofs.Common.{◌&&◌}
+use Rattle.std.proofs.Common.{◌||◌, ◌⊎◌, List, [], ◌∷◌, ◌++◌, get_or, length, map, max, take, find, Option, Some, None}
+use Rattle.std.proofs.Common.{refl, ap, subst}
 use Rattle.std.proofs.Common.{◌∙◌, sym, arith, inl, inr, flat_map, length-append}
 use Rattle.std.specs.List.{list_all, range_with_len, sum_by}
 use Rattle.std.specs.Option.{is_some}
@@ -11,14 +13,16 @@ use Rattle.std.proofs.lemmas.List.Sums.{sum_by-cons}
 use Rattle.sfnt_bytes.specs.Number.{u16_at, u32_at}
 use Rattle.codes.specs.Order.{IsFirstReaching}
 use Rattle.codes.specs.declared.code_points.TheConstants.{CODES}
-use Rattle.variation_sequences.specs.Format14.{list_count, mapping_code, mapping_glyph, mappings_of, range_first, range_last}
+use Rattle.variation_sequences.specs.Format14.{list_count, mapping_code, mapping_glyph, mappings_of, range_first}
+use Rattle.variation_sequences.specs.Format14.{range_last}
 use Rattle.variation_sequences.specs.Encoding.{is_whole, whole_subtable}
 use Rattle.variation_sequences.specs.Format14.{range_more, ranges_of, selector_at, selector_count}
 use Rattle.variation_sequences.specs.Laws.{MadeIsReadBack}
 use Rattle.variation_sequences.specs.Inside.{IsNextCode, NoVariant}
-use Rattle.variation_sequences.specs.Order.{has_code, is_above, is_ascending, member_with}
+use Rattle.variation_sequences.specs.Spans.{has_code, is_above, is_ascending, member_with}
 use Rattle.variation_sequences.specs.Sequences.{entries_from, entries_in, entries_of, entries_of_record}
-use Rattle.variation_sequences.specs.Strict.{codes_in, entries_under, entry_count, has_lists, has_ordered_lists, is_apart}
+use Rattle.variation_sequences.specs.Strict.{codes_in, entries_under, entry_count, has_lists, has_ordered_lists}
+use Rattle.variation_sequences.specs.Strict.{is_apart}
 use Rattle.variation_sequences.specs.Strict.{is_strict, range_with}
 use Rattle.variation_sequences.specs.Written.{AreOrdered, IsNotBelow, entry_of, grouped, selector_of, subtable_bytes}
 use Rattle.variation_sequences.specs.Written.{subtable_size, with_pair}
@@ -26,11 +30,13 @@ use Rattle.variation_sequences.specs.declared.strict.TheConstants.{MAX_ENTRIES}
 use Rattle.variation_sequences.specs.declared.variant.Entry.{Entry}
 use Rattle.variation_sequences.specs.declared.variant.Pair.{Pair}
 use Rattle.variation_sequences.specs.declared.variant.Variant.TheVariants.{Glyph}
-use Rattle.variation_sequences.proofs.EntryLemmas.{entries_first, entries_none, first_mapped, first_none, no_list_ascends}
+use Rattle.variation_sequences.proofs.EntryLemmas.{entries_first, entries_none, first_mapped, first_none}
+use Rattle.variation_sequences.proofs.EntryLemmas.{no_list_ascends}
 use Rattle.variation_sequences.proofs.EntryLemmas.{no_list_count}
 use Rattle.variation_sequences.proofs.GroupLemmas.{all_grouped}
-use Rattle.variation_sequences.proofs.OrderLemmas.{next_here, next_past}
-use Rattle.variation_sequences.proofs.WrittenLemmas.{IsTable, count_read, length-made, mappings_read, no_pair, ranges_read}
+use Rattle.variation_sequences.proofs.SpanLemmas.{next_here, next_past}
+use Rattle.variation_sequences.proofs.WrittenLemmas.{IsTable, count_read, length-made, mappings_read, no_pair}
+use Rattle.variation_sequences.proofs.WrittenLemmas.{ranges_read}
 use Rattle.variation_sequences.proofs.WrittenLemmas.{selector_read}
 
 -- pairs of one selector in order of their codes
@@ -87,16 +93,18 @@ in_front v c p ((q ∷ qs) ∷ gs) s k b o =
         → OrderedCodes q.selector (suc p.code) (q ∷ qs)
     same_codes e (inl x) = absurd (omega (arith, e, x))
     same_codes e (inr x) = x.1
+
     above : (p.selector ≡ q.selector → ⊥)
         → (p.selector < q.selector) ⊎ ((p.selector ≡ q.selector) × OrderedCodes q.selector (suc p.code) (q ∷ qs))
         → suc p.selector ≤ q.selector
     above n (inl x) = omega (arith, x)
     above n (inr x) = absurd (n x.0)
+
     joins : p.selector ≡ q.selector → OrderedCodes q.selector (suc p.code) (q ∷ qs)
         → GroupsFrom v c ((p ∷ q ∷ qs) ∷ gs)
     joins e codes =
         let own : OrderedCodes p.selector (suc p.code) (q ∷ qs) =
-            subst (λ (w : ℕ). OrderedCodes w (suc p.code) (q ∷ qs)) (sym e) codes in (
+        subst (λ (w : ℕ). OrderedCodes w (suc p.code) (q ∷ qs)) (sym e) codes in (
           elim b [ inl x ↦ inl x | inr x ↦ inr (x.0, (refl, x.1, k, own)) ],
           s,
           omega arith,
@@ -158,7 +166,7 @@ above_by codes zero a b = grind (arith, nat_tests)
 above_by codes (suc i) a b =
     let before : suc i - 1 ≡ i = omega arith in
     let rises : codes i < codes (suc i) =
-        subst (λ (k : ℕ). codes k < codes (suc i)) before (b (omega arith)) in
+    subst (λ (k : ℕ). codes k < codes (suc i)) before (b (omega arith)) in
     later rises
   where
     later : codes i < codes (suc i) → is_above codes codes (suc i) ≡ true
@@ -185,10 +193,10 @@ table_ascends : (v : ℕ) (u : List ℕ) (g : List Pair) → IsTable u g → Ord
 table_ascends v u g t o =
     ascending_by (mapping_code u) (list_count u)
     (λ i h. let there : i < length g = omega (arith, h, t.count) in
-        omega (arith, t.code i there, (code_of v 0 g i o there).1))
+    omega (arith, t.code i there, (code_of v 0 g i o there).1))
     (λ i h. let next : suc i < length g = omega (arith, h, t.count) in
-        let there : i < length g = omega (arith, next) in
-        omega (arith, t.code i there, t.code (suc i) next, codes_rise v 0 g i o next))
+    let there : i < length g = omega (arith, next) in
+    omega (arith, t.code i there, t.code (suc i) next, codes_rise v 0 g i o next))
 
 -- and its entries are its pairs
 no_range : (t : List ℕ) (from : ℕ) → t ≡ 0 ∷ 0 ∷ 0 ∷ 0 ∷ []
@@ -226,12 +234,12 @@ entries_are v t u (p ∷ ps) j from e a n s o b =
     let glyph : mapping_glyph u j ≡ p.glyph = ap (mapping_glyph u) place ∙ here.1 in
     let inside : j < list_count u = omega (arith, n) in
     let next : IsNextCode (mapping_code u) (mapping_code u) (list_count u) from j p.code =
-        next_here (mapping_code u) (mapping_code u) (list_count u) from j p.code a
-        (record { within = omega (arith, inside); before = b; here = λ x. omega (arith, code, o.1) }) inside
-        (omega (arith, code, o.1)) in
+    next_here (mapping_code u) (mapping_code u) (list_count u) from j p.code a
+    (record { within = omega (arith, inside); before = b; here = λ x. omega (arith, code, o.1) }) inside
+    (omega (arith, code, o.1)) in
     let first = first_mapped t u from 0 j CODES p.code (no_range t from e) next o.2 in
     let rest = entries_are v t u ps (j + 1) (p.code + 1) e a (omega (arith, n)) (later place) (codes_on o.3)
-        (λ i x. passed code i x) in
+    (λ i x. passed code i x) in
     entries_first v t u from p.code (Glyph (mapping_glyph u j)) first
     ∙ (λ i. record { selector = sym o.0 i; code = p.code; variant = Glyph (glyph i) } ∷ rest i)
   where
@@ -240,9 +248,11 @@ entries_are v t u (p ∷ ps) j from e a n s o b =
         let place : j + 1 + i ≡ j + suc i = omega arith in
         let there = s (suc i) (omega (arith, x)) in
         (ap (mapping_code u) place ∙ there.0, ap (mapping_glyph u) place ∙ there.1)
+
     codes_on : OrderedCodes v (suc p.code) ps → OrderedCodes v (p.code + 1) ps
     codes_on q =
         let same : suc p.code ≡ p.code + 1 = omega arith in subst (λ (c : ℕ). OrderedCodes v c ps) same q
+
     passed : mapping_code u j ≡ p.code → (i : ℕ) → i < j + 1 → mapping_code u i < p.code + 1
     passed q i x = elim (cases_lt i j) [
       | inl y ↦ omega (arith, b i y, o.1)
@@ -256,7 +266,7 @@ table_entries : (v : ℕ) (t u : List ℕ) (g : List Pair) → t ≡ 0 ∷ 0 ∷
 table_entries v t u g e is o =
     entries_are v t u g 0 0 e (table_ascends v u g is o) (omega (arith, is.count))
     (λ i x. let place : 0 + i ≡ i = omega arith in
-        (ap (mapping_code u) place ∙ is.code i x, ap (mapping_glyph u) place ∙ is.glyph i x))
+    (ap (mapping_code u) place ∙ is.code i x, ap (mapping_glyph u) place ∙ is.glyph i x))
     o (λ i x. absurd (omega (arith, x)))
 
 -- sums and lists over the places of groups
@@ -267,9 +277,14 @@ sum_range f [] a e = refl
 sum_range f (g ∷ gs) a e =
     let place : a ≡ a + 0 = omega arith in
     let first : f a ≡ length g = ap f place ∙ e 0 (omega arith) in
-    omega (arith, first, sum_by-cons f a (range_with_len (a + 1) (length gs)),
-    length-append g (flat_map (λ (h : List Pair). h) gs), sum_range f gs (a + 1) (λ i x.
-    let further : a + 1 + i ≡ a + suc i = omega arith in ap f further ∙ e (suc i) (omega (arith, x))))
+    omega (
+      arith,
+      first,
+      sum_by-cons f a (range_with_len (a + 1) (length gs)),
+      length-append g (flat_map (λ (h : List Pair). h) gs),
+      sum_range f gs (a + 1) (λ i x.
+          let further : a + 1 + i ≡ a + suc i = omega arith in ap f further ∙ e (suc i) (omega (arith, x))),
+    )
 
 entries_range : (f : ℕ → List Entry) (gs : List (List Pair)) (a : ℕ)
     → ((i : ℕ) → i < length gs → f (a + i) ≡ map entry_of (get_or gs i []))
@@ -279,7 +294,7 @@ entries_range f (g ∷ gs) a e =
     let place : a ≡ a + 0 = omega arith in
     let first : f a ≡ map entry_of g = ap f place ∙ e 0 (omega arith) in
     let rest = entries_range f gs (a + 1) (λ i x.
-        let further : a + 1 + i ≡ a + suc i = omega arith in ap f further ∙ e (suc i) (omega (arith, x))) in
+    let further : a + 1 + i ≡ a + suc i = omega arith in ap f further ∙ e (suc i) (omega (arith, x))) in
     (λ i. first i ++ rest i) ∙ sym (map-append entry_of g (flat_map (λ (h : List Pair). h) gs))
 
 -- of a list of none
@@ -350,22 +365,26 @@ module _ (pairs : List Pair) (order : AreOrdered 0 0 pairs) where
       ascending_by (selector_at made) (selector_count made)
       (λ i h. omega (arith, selector_read pairs i (inside i h), (group_codes 0 groups i in_order (inside i h)).1))
       (λ i h. let next : suc i < length groups = inside (suc i) h in
-          let there : i < length groups = omega (arith, next) in
-          omega (arith, selector_read pairs i there, selector_read pairs (suc i) next,
-          selectors_rise 0 groups i in_order next))
+      let there : i < length groups = omega (arith, next) in
+      omega (
+        arith,
+        selector_read pairs i there,
+        selector_read pairs (suc i) next,
+        selectors_rise 0 groups i in_order next,
+      ))
 
   lists_made : list_all (has_lists made) (range_with_len 0 (selector_count made)) ≡ true
   lists_made =
       all_from (has_lists made) 0 (selector_count made)
       (λ k x y. let there : k < length groups = inside k (omega (arith, y)) in
-          lists_by made k (get_or groups k []) (ranges_read pairs k there) (mappings_read pairs k there))
+      lists_by made k (get_or groups k []) (ranges_read pairs k there) (mappings_read pairs k there))
 
   ordered_made : list_all (has_ordered_lists made) (range_with_len 0 (selector_count made)) ≡ true
   ordered_made =
       all_from (has_ordered_lists made) 0 (selector_count made)
       (λ k x y. let there : k < length groups = inside k (omega (arith, y)) in
-          ordered_by made k (selector_of (get_or groups k [])) (get_or groups k []) (ranges_read pairs k there)
-          (mappings_read pairs k there) (codes_at k there))
+      ordered_by made k (selector_of (get_or groups k [])) (get_or groups k []) (ranges_read pairs k there)
+      (mappings_read pairs k there) (codes_at k there))
 
   count_made : entry_count made ≡ length pairs
   unfolding entry_count
@@ -373,8 +392,8 @@ module _ (pairs : List Pair) (order : AreOrdered 0 0 pairs) where
       ap (λ (n : ℕ). sum_by (entries_under made) (range_with_len 0 n)) (count_read pairs)
       ∙ sum_range (entries_under made) groups 0
       (λ i x. let place : 0 + i ≡ i = omega arith in
-          ap (entries_under made) place
-          ∙ under_by made i (get_or groups i []) (ranges_read pairs i x) (mappings_read pairs i x))
+      ap (entries_under made) place
+      ∙ under_by made i (get_or groups i []) (ranges_read pairs i x) (mappings_read pairs i x))
       ∙ ap (λ (ps : List Pair). length ps) (all_grouped pairs)
 
   pub made_strict : length pairs ≤ MAX_ENTRIES → is_strict made ≡ true
@@ -398,7 +417,7 @@ module _ (pairs : List Pair) (order : AreOrdered 0 0 pairs) where
       ap (λ (n : ℕ). flat_map (entries_of_record made) (range_with_len 0 n)) all
       ∙ entries_range (entries_of_record made) groups 0
       (λ i x. let place : 0 + i ≡ i = omega arith in
-          ap (λ (k : ℕ). entries_of_record made k) place ∙ record_made i x)
+      ap (λ (k : ℕ). entries_of_record made k) place ∙ record_made i x)
       ∙ ap (map entry_of) (all_grouped pairs)
 
 -- bytes that begin with the subtable
@@ -416,9 +435,9 @@ unfolding whole_subtable
 whole_made pairs after =
     let bytes : List ℕ = subtable_bytes pairs ++ after in
     let size : length (subtable_bytes pairs) ≡ subtable_size pairs =
-        length-made pairs (ap (λ (ps : List Pair). length ps) (all_grouped pairs)) in
+    length-made pairs (ap (λ (ps : List Pair). length ps) (all_grouped pairs)) in
     let long : length bytes ≡ subtable_size pairs + length after =
-        length-append (subtable_bytes pairs) after ∙ ap (λ (n : ℕ). n + length after) size in
+    length-append (subtable_bytes pairs) after ∙ ap (λ (n : ℕ). n + length after) size in
     let format = format_after pairs after in
     let stated = size_after pairs after in
     cond-true (is_whole bytes) (Some (take (u32_at bytes 2) bytes)) None

@@ -61,13 +61,15 @@ module _ {X : Type 0} (row : X → List ℕ) (size : ℕ) (sized : (x : X) → l
       → (rest : List ℕ) × (drop (size * k) (flat_map row xs ++ tail) ≡ row (get_or xs k d) ++ rest)
   drop-rows [] tail k d h = absurd (omega (arith, h))
   drop-rows (x ∷ xs) tail zero d h =
-      let none : size * 0 ≡ 0 = omega arith in
-      (flat_map row xs ++ tail,
-      ap (λ (m : ℕ). drop m (flat_map row (x ∷ xs) ++ tail)) none ∙ append_assoc (row x) (flat_map row xs) tail)
+      let none : size * 0 ≡ 0 = omega arith in (
+        flat_map row xs ++ tail,
+        ap (λ (m : ℕ). drop m (flat_map row (x ∷ xs) ++ tail)) none ∙ append_assoc (row x) (flat_map row xs) tail,
+      )
   drop-rows (x ∷ xs) tail (suc k) d h =
       let further = drop-rows xs tail k d (omega (arith, h)) in
-      let place : size * suc k ≡ length (row x) + size * k = omega (arith, sized x) in
-      (further.0,
-      ap (λ (m : ℕ). drop m (flat_map row (x ∷ xs) ++ tail)) place
-      ∙ ap (drop (length (row x) + size * k)) (append_assoc (row x) (flat_map row xs) tail)
-      ∙ drop-append-add (row x) (flat_map row xs ++ tail) (size * k) ∙ further.1)
+      let place : size * suc k ≡ length (row x) + size * k = omega (arith, sized x) in (
+        further.0,
+        ap (λ (m : ℕ). drop m (flat_map row (x ∷ xs) ++ tail)) place
+            ∙ ap (drop (length (row x) + size * k)) (append_assoc (row x) (flat_map row xs) tail)
+            ∙ drop-append-add (row x) (flat_map row xs ++ tail) (size * k) ∙ further.1,
+      )

@@ -1,12 +1,13 @@
 -- What is known of a subtable that is read.
-use Rattle.std.proofs.Common.{◌≡◌, ℕ, zero, suc, ◌+◌, ◌*◌, ◌<◌, ◌≤◌, Bool, true, false, not, ◌&&◌, List, length, leb, Option, ap, sym, ◌∙◌, arith}
+use Rattle.std.proofs.Common.{◌≡◌, ℕ, zero, suc, ◌+◌, ◌*◌, ◌<◌, ◌≤◌, Bool, true, false, not, ◌&&◌, List, length, leb}
+use Rattle.std.proofs.Common.{Option, ap, sym, ◌∙◌, arith}
 use Rattle.std.specs.List.{list_all, range_with_len, sum_by}
 use Rattle.std.specs.Option.{is_some}
 use Rattle.std.proofs.lemmas.List.Sums.{sum_by-cons}
 use Rattle.std.proofs.lemmas.Bool.{and_parts, leb-true}
 use Rattle.variation_sequences.specs.Format14.{list_count, mapping_code, range_more, selector_count}
 use Rattle.variation_sequences.specs.Inside.{HasLists, HasSelectors, IsRecord}
-use Rattle.variation_sequences.specs.Strict.{codes_in, has_lists, has_ordered_lists, is_strict, range_with}
+use Rattle.variation_sequences.specs.Strict.{codes_in, has_lists, has_ordered_lists, has_records, is_strict, range_with}
 use Rattle.variation_sequences.proofs.PlaceLemmas.{all_at}
 
 has_by : (s : List ℕ) (k : ℕ) → has_lists s k ≡ true → HasLists s k
@@ -39,11 +40,8 @@ apart_here t u j code found e f n =
 pub strict_selectors : (s : List ℕ) → is_strict s ≡ true → HasSelectors s
 unfolding is_strict
 strict_selectors s t =
-    let most = and_parts _ _ t in
-    let more = and_parts _ _ most.0 in
-    let some = and_parts _ _ more.0 in
-    let few = and_parts _ _ some.0 in
-    record { room = leb-true _ _ few.0; order = few.1 }
+    let first = and_parts (has_records s) _ (and_parts _ _ (and_parts _ _ (and_parts _ _ t).0).0).0 in
+    record { room = leb-true _ _ first.0; order = first.1 }
 
 ordered_by : (s : List ℕ) (k : ℕ) → has_ordered_lists s k ≡ true → 21 + 11 * k ≤ length s → HasLists s k → IsRecord s k
 unfolding has_ordered_lists
@@ -51,12 +49,16 @@ ordered_by s k t room lists =
     let both = and_parts _ _ (and_parts _ _ t).0 in
     record { room = room; lists = lists; range_order = both.0; mapping_order = both.1 }
 
-pub strict_record : (s : List ℕ) (k : ℕ) → is_strict s ≡ true → k < selector_count s → IsRecord s k
+all_lists : (s : List ℕ) → is_strict s ≡ true → list_all (has_lists s) (range_with_len 0 (selector_count s)) ≡ true
 unfolding is_strict
+all_lists s t = (and_parts _ _ (and_parts _ _ (and_parts _ _ t).0).0).1
+
+all_ordered : (s : List ℕ) → is_strict s ≡ true
+    → list_all (has_ordered_lists s) (range_with_len 0 (selector_count s)) ≡ true
+unfolding is_strict
+all_ordered s t = (and_parts _ _ t).1
+
+pub strict_record : (s : List ℕ) (k : ℕ) → is_strict s ≡ true → k < selector_count s → IsRecord s k
 strict_record s k t h =
-    let selectors = strict_selectors s t in
-    let most = and_parts _ _ t in
-    let more = and_parts _ _ most.0 in
-    let some = and_parts _ _ more.0 in
-    ordered_by s k (all_at (has_ordered_lists s) 0 (selector_count s) k k most.1 h (omega arith))
-    (omega (arith, selectors.room, h)) (lists_at s k some.1 h)
+    ordered_by s k (all_at (has_ordered_lists s) 0 (selector_count s) k k (all_ordered s t) h (omega arith))
+    (omega (arith, (strict_selectors s t).room, h)) (lists_at s k (all_lists s t) h)

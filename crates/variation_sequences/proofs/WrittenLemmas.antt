@@ -44,9 +44,10 @@ after_count g rest = refl
 mapping_at : (g : List Pair) (rest : List ℕ) (j : ℕ) → j < length g
     → (more : List ℕ) × (drop (4 + 5 * j) (table_bytes g ++ rest) ≡ mapping_bytes (get_or g j no_pair) ++ more)
 mapping_at g rest j h =
-    let there = drop-rows mapping_bytes 5 sized_mapping g rest j no_pair h in
-    (there.0,
-    sym (drop-drop (5 * j) 4 (table_bytes g ++ rest)) ∙ ap (drop (5 * j)) (after_count g rest) ∙ there.1)
+    let there = drop-rows mapping_bytes 5 sized_mapping g rest j no_pair h in (
+      there.0,
+      sym (drop-drop (5 * j) 4 (table_bytes g ++ rest)) ∙ ap (drop (5 * j)) (after_count g rest) ∙ there.1,
+    )
 
 code_read : (p : Pair) (more : List ℕ) → u24_at (mapping_bytes p ++ more) 0 ≡ p.code
 unfolding mapping_bytes
@@ -107,26 +108,34 @@ placed_least at (g ∷ gs) (suc k) h = omega (arith, placed_least (at + table_si
 
 placed_table : (at : ℕ) (gs : List (List Pair)) (k : ℕ) (front : List ℕ) → length front ≡ at → k < length gs
     → (rest : List ℕ)
-    × (drop (get_or (placed at gs) k nowhere).1 (front ++ flat_map table_bytes gs) ≡ table_bytes (get_or gs k []) ++ rest)
+    × (drop (get_or (placed at gs) k nowhere).1 (front ++ flat_map table_bytes gs)
+    ≡ table_bytes (get_or gs k []) ++ rest)
 placed_table at [] k front e h = absurd (omega (arith, h))
-placed_table at (g ∷ gs) zero front e h =
-    (flat_map table_bytes gs,
-    ap (λ (m : ℕ). drop m (front ++ flat_map table_bytes (g ∷ gs))) (sym e)
-    ∙ drop-append_seam front (flat_map table_bytes (g ∷ gs)))
+placed_table at (g ∷ gs) zero front e h = (
+  flat_map table_bytes gs,
+  ap (λ (m : ℕ). drop m (front ++ flat_map table_bytes (g ∷ gs))) (sym e)
+      ∙ drop-append_seam front (flat_map table_bytes (g ∷ gs)),
+)
 placed_table at (g ∷ gs) (suc k) front e h =
     let size : length (front ++ table_bytes g) ≡ at + table_size g =
-        omega (arith, length-append front (table_bytes g), length-table g, e) in
-    let further = placed_table (at + table_size g) gs k (front ++ table_bytes g) size (omega (arith, h)) in
-    (further.0,
-    ap (drop (get_or (placed (at + table_size g) gs) k nowhere).1)
-    (sym (append_assoc front (table_bytes g) (flat_map table_bytes gs))) ∙ further.1)
+    omega (arith, length-append front (table_bytes g), length-table g, e) in
+    let further = placed_table (at + table_size g) gs k (front ++ table_bytes g) size (omega (arith, h)) in (
+      further.0,
+      ap (drop (get_or (placed (at + table_size g) gs) k nowhere).1)
+          (sym (append_assoc front (table_bytes g) (flat_map table_bytes gs))) ∙ further.1,
+    )
 
 pub length-tables : (gs : List (List Pair)) → length (flat_map table_bytes gs)
     ≡ 4 * length gs + 5 * length (flat_map (λ g. g) gs)
 length-tables [] = refl
 length-tables (g ∷ gs) =
-    omega (arith, length-tables gs, length-table g, length-append (table_bytes g) (flat_map table_bytes gs),
-    length-append g (flat_map (λ (h : List Pair). h) gs))
+    omega (
+      arith,
+      length-tables gs,
+      length-table g,
+      length-append (table_bytes g) (flat_map table_bytes gs),
+      length-append g (flat_map (λ (h : List Pair). h) gs),
+    )
 
 list_at-some : (s : List ℕ) (o : ℕ) → 0 < o → list_at s o ≡ drop o s
 unfolding list_at
@@ -188,8 +197,8 @@ module _ (pairs : List Pair) where
       → (rest : List ℕ) × (drop (10 + 11 * k) made ≡ record_bytes (get_or places k nowhere) ++ rest)
   record_at k h =
       let there =
-          drop-rows record_bytes 11 sized_record places tables k nowhere
-          (omega (arith, h, length-placed (tables_at pairs) groups)) in
+      drop-rows record_bytes 11 sized_record places tables k nowhere
+      (omega (arith, h, length-placed (tables_at pairs) groups)) in
       (there.0, sym (drop-drop (11 * k) 10 made) ∙ ap (drop (11 * k)) after_header ∙ there.1)
 
   first_field : (r : ℕ × ℕ) (rest : List ℕ) → u24_at (record_bytes r ++ rest) 0 ≡ r.0
@@ -218,8 +227,8 @@ module _ (pairs : List Pair) where
       let there = record_at k h in
       let place : 13 + 11 * k ≡ 10 + 11 * k + 3 = omega arith in
       let offset : u32_at made (13 + 11 * k) ≡ 0 =
-          ap (u32_at made) place ∙ sym (u32_at-drop (10 + 11 * k) 3 made) ∙ ap (λ (b : List ℕ). u32_at b 3) there.1
-          ∙ second_field (get_or places k nowhere) there.0 in
+      ap (u32_at made) place ∙ sym (u32_at-drop (10 + 11 * k) 3 made) ∙ ap (λ (b : List ℕ). u32_at b 3) there.1
+      ∙ second_field (get_or places k nowhere) there.0 in
       ap (list_at made) offset ∙ list_at-none made
 
   offset_read : (k : ℕ) → k < length groups → u32_at made (17 + 11 * k) ≡ (get_or places k nowhere).1
@@ -235,8 +244,8 @@ module _ (pairs : List Pair) where
       let there = placed_table (tables_at pairs) groups k front length-front h in
       let some : 0 < (get_or places k nowhere).1 = omega (arith, placed_least (tables_at pairs) groups k h) in
       let bytes : list_at made (u32_at made (17 + 11 * k)) ≡ table_bytes (get_or groups k []) ++ there.0 =
-          ap (list_at made) (offset_read k h) ∙ list_at-some made (get_or places k nowhere).1 some
-          ∙ ap (drop (get_or places k nowhere).1) made_is ∙ there.1 in
+      ap (list_at made) (offset_read k h) ∙ list_at-some made (get_or places k nowhere).1 some
+      ∙ ap (drop (get_or places k nowhere).1) made_is ∙ there.1 in
       subst (λ (u : List ℕ). IsTable u (get_or groups k [])) (sym bytes) (table_is (get_or groups k []) there.0)
 
   pub length-made : length (flat_map (λ (g : List Pair). g) groups) ≡ length pairs → length made ≡ subtable_size pairs

@@ -3,7 +3,7 @@ use Rattle.std.specs.Prelude.{◌≡◌, ℕ, ◌+◌, ◌*◌, ◌<◌, ◌≤�
 use Rattle.codes.specs.declared.code_points.TheConstants.{CODES}
 use Rattle.variation_sequences.specs.Format14.{list_count, mapping_code, mappings_of, range_first, range_last}
 use Rattle.variation_sequences.specs.Format14.{ranges_of, selector_count}
-use Rattle.variation_sequences.specs.Order.{is_ascending, member_with}
+use Rattle.variation_sequences.specs.Spans.{is_ascending, member_with}
 use Rattle.variation_sequences.specs.Sequences.{variant_in}
 use Rattle.variation_sequences.specs.Strict.{has_ordered_selectors}
 use Rattle.variation_sequences.specs.declared.variant.Variant.{Variant}

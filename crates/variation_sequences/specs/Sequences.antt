@@ -6,7 +6,7 @@ use Rattle.std.specs.Option.{option_and_then, option_map}
 use Rattle.codes.specs.declared.code_points.TheConstants.{CODES}
 use Rattle.variation_sequences.specs.Encoding.{subtable_of}
 use Rattle.variation_sequences.specs.Format14.{mapping_glyph, mappings_of, ranges_of, selector_at, selector_count}
-use Rattle.variation_sequences.specs.Order.{member_with}
+use Rattle.variation_sequences.specs.Spans.{member_with}
 use Rattle.variation_sequences.specs.Strict.{mapping_with, range_with}
 use Rattle.variation_sequences.specs.declared.variant.Entry.{Entry}
 use Rattle.variation_sequences.specs.declared.variant.Variant.{Variant}

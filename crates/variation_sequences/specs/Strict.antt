@@ -4,7 +4,7 @@ use Rattle.std.specs.Prelude.{ℕ, ◌+◌, ◌*◌, nat_le, not, Bool, ◌&&◌
 use Rattle.std.specs.List.{list_all, range_with_len}
 use Rattle.variation_sequences.specs.Format14.{list_count, mapping_code, mappings_of, range_first, range_last}
 use Rattle.variation_sequences.specs.Format14.{range_more, ranges_of, selector_at, selector_count}
-use Rattle.variation_sequences.specs.Order.{is_ascending, member_with}
+use Rattle.variation_sequences.specs.Spans.{is_ascending, member_with}
 use Rattle.variation_sequences.specs.declared.strict.TheConstants.{MAX_ENTRIES}
 
 -- all records lie within the bytes

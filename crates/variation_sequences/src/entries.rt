@@ -5,14 +5,14 @@ ghost use Rattle.std.specs.Iterator.{YieldsFirst, item_count};
 ghost use Rattle.codes.specs.Order.{IsFirstReaching};
 ghost use Rattle.variation_sequences.specs.Format14.{list_count, mapping_code, range_first, range_last};
 ghost use Rattle.variation_sequences.specs.Inside.{IsFirstVariant, IsRecord, NoVariant};
-ghost use Rattle.variation_sequences.specs.Order.{is_ascending};
+ghost use Rattle.variation_sequences.specs.Spans.{is_ascending};
 ghost use Rattle.variation_sequences.specs.Sequences.{entries_of, entries_of_record};
 ghost use Rattle.variation_sequences.specs.Strict.{is_strict};
 
 use crate::lists::{
     Mappings, NO_LIST, Ranges, count_selectors, mappings_of, ranges_of, read_selector,
 };
-use crate::order::{next_code, place_near};
+use crate::spans::{next_code, place_near};
 use crate::variant::{Entry, Variant};
 use codes::CODES;
 use std::marker::Model;
@@ -62,7 +62,7 @@ struct RecordEntries<'a> {
 impl<'a> Model for RecordEntries<'a> {
     ghost use Rattle.std.specs.Prelude.{◌≡◌, ℕ, List, true};
     ghost use Rattle.variation_sequences.specs.Format14.{list_count, mapping_code, range_first, range_last};
-    ghost use Rattle.variation_sequences.specs.Order.{is_ascending};
+    ghost use Rattle.variation_sequences.specs.Spans.{is_ascending};
     ghost use Rattle.variation_sequences.specs.Sequences.{entries_in};
     ghost use Rattle.variation_sequences.specs.declared.variant.Entry.{Entry};
 

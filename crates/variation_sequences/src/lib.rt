@@ -4,18 +4,18 @@
 
 mod encoding;
 mod entries;
+mod format14;
 mod laws;
 mod lists;
-mod made;
-mod order;
-mod sequences;
+mod made_sequences;
+mod spans;
 mod strict;
 mod variant;
 
 pub use crate::entries::Entries;
+pub use crate::format14::Sequences;
 pub use crate::laws::{found_is_listed, made_has_size, made_is_read_back};
-pub use crate::made::{made_size, make_subtable};
-pub use crate::sequences::Sequences;
+pub use crate::made_sequences::{made_size, make_subtable};
 pub use crate::variant::{Entry, Pair, Variant, variant_glyph};
 
 #[cfg(test)]

@@ -2,7 +2,7 @@
 ghost use Rattle.std.specs.Prelude.{◌≡◌, ◌+◌, ◌*◌, ◌<◌, ◌≤◌, ◌^◌, length};
 ghost use Rattle.variation_sequences.specs.Format14.{list_at, list_count, mapping_glyph, mappings_of, range_more, ranges_of, selector_at, selector_count, u24_at};
 
-use crate::order::Spans;
+use crate::spans::Spans;
 use codes::Ends;
 use sfnt_bytes::{be16, be32};
 use std::marker::Model;

@@ -3,14 +3,14 @@ ghost use Rattle.std.specs.Prelude.{◌≡◌, ◌+◌, ◌*◌, ◌<◌, ◌≤
 ghost use Rattle.std.specs.List.{list_all, range_with_len};
 ghost use Rattle.variation_sequences.specs.Format14.{list_count, range_first, range_last, selector_count};
 ghost use Rattle.variation_sequences.specs.Inside.{HasLists};
-ghost use Rattle.variation_sequences.specs.Order.{is_ascending};
+ghost use Rattle.variation_sequences.specs.Spans.{is_ascending};
 ghost use Rattle.variation_sequences.specs.Strict.{codes_in, entries_under, entry_count, has_lists, has_ordered_lists, has_ordered_selectors, is_apart, is_strict};
 
 use crate::lists::{
     HEADER, MAPPING, Mappings, RANGE, RECORD, Ranges, Selectors, count_list, count_selectors,
     mappings_of, ranges_of,
 };
-use crate::order::{is_ascending, member_at, place_near};
+use crate::spans::{is_ascending, member_at, place_near};
 use codes::Ends;
 
 /// How many entries a subtable has at most, so that the time to read it has a bound.
