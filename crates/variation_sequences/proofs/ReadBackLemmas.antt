@@ -154,7 +154,8 @@ codes_rise v c (p ∷ ps) zero o h = (code_of v (suc p.code) ps 0 o.3 (omega (ar
 codes_rise v c (p ∷ ps) (suc j) o h = codes_rise v (suc p.code) ps j o.3 (omega (arith, h))
 
 -- tests that all pass
-all_from : (p : ℕ → Bool) (a n : ℕ) → ((i : ℕ) → a ≤ i → i < a + n → p i ≡ true) → list_all p (range_with_len a n) ≡ true
+all_from : (p : ℕ → Bool) (a n : ℕ) → ((i : ℕ) → a ≤ i → i < a + n → p i ≡ true)
+    → list_all p (range_with_len a n) ≡ true
 all_from p a zero f = refl
 all_from p a (suc n) f =
     and_from (p a) (list_all p (range_with_len (a + 1) n)) (f a (omega arith) (omega arith))

@@ -1,5 +1,5 @@
--- The subtable that is written for pairs: each is a mapping of its own (OpenType 1.9, cmap, Format 14: Unicode variation
--- sequences).
+-- The subtable that is written for pairs: each is a mapping of its own (OpenType 1.9, cmap, Format 14: Unicode
+-- variation sequences).
 use Rattle.std.specs.Prelude.{◌≡◌, ℕ, suc, ◌+◌, ◌*◌, ◌/◌, ◌%◌, ◌^◌, ◌<◌, ◌≤◌, ◌⊎◌, nat_eq, List, [], ◌∷◌, ◌++◌, length}
 use Rattle.std.specs.Prelude.{if◌then◌else◌}
 use Rattle.std.specs.List.{All, flat_map}

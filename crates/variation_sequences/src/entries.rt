@@ -26,7 +26,8 @@ fn first_variant(
     j: usize,
     from: u32,
 ) -> Option<(u32, Variant)>
-    requires range_order { is_ascending (range_first ranges.now) (range_last ranges.now) (list_count ranges.now) ≡ true }
+    requires range_order { is_ascending (range_first ranges.now) (range_last ranges.now)
+        (list_count ranges.now) ≡ true }
     requires range_place { IsFirstReaching (range_last ranges.now) (list_count ranges.now) from i }
     requires mapping_order { is_ascending (mapping_code mappings.now) (mapping_code mappings.now)
         (list_count mappings.now) ≡ true }

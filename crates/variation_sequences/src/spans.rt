@@ -35,8 +35,8 @@ pub(crate) fn is_ascending<S: Spans>(spans: &S) -> bool
     (0..spans.count()).all(|i| is_above(spans, i))
 }
 
-/// Returns the place of the first member that ends at the code or above it, or the number of members where none does. One
-/// close after the place that the hint names is found soon.
+/// Returns the place of the first member that ends at the code or above it, or the number of members where none does.
+/// One close after the place that the hint names is found soon.
 pub(crate) fn place_near<S: Spans>(spans: &S, hint: usize, code: u32) -> usize
     requires { is_ascending (S.first_of spans.now) (S.end_of spans.now) (S.count_of spans.now) ≡ true }
     ensures { IsFirstReaching (S.end_of spans.now) (S.count_of spans.now) code result }

@@ -1,9 +1,9 @@
 //! A subtable as fontTools writes it, what is not read of it, and one that is made.
-use crate::{Entry, Pair, Sequences, Variant, make_subtable, variant_glyph};
+use crate::{Pair, Sequences, Variant, make_subtable, variant_glyph};
 use std::test::Fail;
 
-// A `cmap` with one encoding record, as fontTools 4.38 compiles it of these sequences: U+FE00 after U+0030 to U+0039 and
-// U+2268 by default, after U+2229 with glyph 7 and after U+222A with glyph 8; U+E0100 after U+8FBB with glyph 9.
+// A `cmap` with one encoding record, as fontTools 4.38 compiles it of these sequences: U+FE00 after U+0030 to U+0039
+// and U+2268 by default, after U+2229 with glyph 7 and after U+222A with glyph 8; U+E0100 after U+8FBB with glyph 9.
 const CMAP: [u8; 79] = [
     0x00, 0x00, 0x00, 0x01, // version, numTables
     0x00, 0x00, 0x00, 0x05, 0x00, 0x00, 0x00, 0x0C, // platformID, encodingID, subtableOffset
@@ -18,31 +18,36 @@ const CMAP: [u8; 79] = [
     0x00, 0x8F, 0xBB, 0x00, 0x09, // the mapping
 ];
 
-#[test]
-fn finds_variants(rt: HostRuntime) -> Result<(), Fail> {
-    let sequences = Sequences::open(&CMAP).ok_or("not read")?;
-    assert_eq!(rt; sequences.find(0xFE00, 0x2F), None);
-    assert_eq!(rt; sequences.find(0xFE00, 0x30), Some(Variant::Unchanged));
-    assert_eq!(rt; sequences.find(0xFE00, 0x39), Some(Variant::Unchanged));
-    assert_eq!(rt; sequences.find(0xFE00, 0x3A), None);
-    assert_eq!(rt; sequences.find(0xFE00, 0x222A), Some(Variant::Glyph(8)));
-    assert_eq!(rt; sequences.find(0xFE00, 0x2268), Some(Variant::Unchanged));
-    assert_eq!(rt; sequences.find(0xFE01, 0x2268), None);
-    assert_eq!(rt; sequences.find(0xE0100, 0x8FBB), Some(Variant::Glyph(9)));
-    assert_eq!(rt; sequences.find(0xE0100, 0x2229), None);
-    Ok(())
+// Returns what is said of a selector and a code.
+fn found(selector: u32, code: u32) -> Option<Variant> {
+    Sequences::open(&CMAP)?.find(selector, code)
 }
 
 #[test]
-fn lists_entries(rt: HostRuntime) -> Result<(), Fail> {
-    let sequences = Sequences::open(&CMAP).ok_or("not read")?;
-    let entries: Vec<Entry> = sequences.entries().collect(rt.alloc())?;
-    assert_eq!(rt; entries.len(), 14);
-    assert_eq!(rt; entries[9].code, 0x39);
-    assert_eq!(rt; entries[10].variant, Variant::Glyph(7));
-    assert_eq!(rt; entries[12].code, 0x2268);
-    assert_eq!(rt; entries[13].selector, 0xE0100);
-    Ok(())
+fn finds_variants(rt: HostRuntime) {
+    assert_eq!(rt; found(0xFE00, 0x2F), None);
+    assert_eq!(rt; found(0xFE00, 0x30), Some(Variant::Unchanged));
+    assert_eq!(rt; found(0xFE00, 0x39), Some(Variant::Unchanged));
+    assert_eq!(rt; found(0xFE00, 0x3A), None);
+    assert_eq!(rt; found(0xFE00, 0x222A), Some(Variant::Glyph(8)));
+    assert_eq!(rt; found(0xFE01, 0x2268), None);
+    assert_eq!(rt; found(0xE0100, 0x8FBB), Some(Variant::Glyph(9)));
+    assert_eq!(rt; found(0xE0100, 0x2229), None);
+}
+
+// Returns the code and the variant of an entry.
+fn entry_at(n: usize) -> Option<(u32, Variant)> {
+    let entry = Sequences::open(&CMAP)?.entries().nth(n)?;
+    Some((entry.code, entry.variant))
+}
+
+#[test]
+fn lists_entries(rt: HostRuntime) {
+    assert_eq!(rt; entry_at(9), Some((0x39, Variant::Unchanged)));
+    assert_eq!(rt; entry_at(10), Some((0x2229, Variant::Glyph(7))));
+    assert_eq!(rt; entry_at(12), Some((0x2268, Variant::Unchanged)));
+    assert_eq!(rt; entry_at(13), Some((0x8FBB, Variant::Glyph(9))));
+    assert_eq!(rt; entry_at(14), None);
 }
 
 // Returns whether the subtable is read with another byte at a place.

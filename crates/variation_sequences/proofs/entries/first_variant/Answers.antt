@@ -6,7 +6,8 @@ use Rattle.variation_sequences.proofs.entries.first_variant.Goals as goal
 
 pub returns-then-mapped-in_range : goal.returns-then-mapped-in_range
 returns-then-mapped-in_range c =
-    subst (λ (g : ℕ). IsFirstVariant c.args.ranges.now c.args.mappings.now c.args.from c.next_code-mapped.result (Glyph g))
+    subst
+    (λ (g : ℕ). IsFirstVariant c.args.ranges.now c.args.mappings.now c.args.from c.next_code-mapped.result (Glyph g))
     (sym c.glyph_at.ensures)
     (first_mapped _ _ _ _ _ _ _ c.next_code-in_range.ensures c.next_code-mapped.ensures (omega arith))
 

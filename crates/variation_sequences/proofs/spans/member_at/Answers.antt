@@ -7,7 +7,8 @@ returns-then-count-place-clause-value g c =
     sym (no_member _ _ _ _ _ c.requires.order c.requires.place (λ h. absurd (omega (arith, h))))
 
 pub returns-then-code-first_at-clause-value : goal.returns-then-code-first_at-clause-value
-returns-then-code-first_at-clause-value g c = sym (no_member _ _ _ _ _ c.requires.order c.requires.place (λ h. omega (arith, h)))
+returns-then-code-first_at-clause-value g c =
+    sym (no_member _ _ _ _ _ c.requires.order c.requires.place (λ h. omega (arith, h)))
 
 pub returns-clause-value : goal.returns-clause-value
 returns-clause-value g c = sym (member_at _ _ _ _ _ c.requires.place (omega arith) (omega arith))

@@ -26,7 +26,8 @@ loop-entry-preserved c =
     record {
       left =
           begins _ _ _ _ _ c.loop-entry.invariant.left c.in_default.ensures.steps.0
-          (c.of-self-inside.ensures ∙ ap (λ (s : List ℕ). entries_of_record s c.loop-entry.self-inside.begun) (sym bytes))
+          (c.of-self-inside.ensures
+          ∙ ap (λ (s : List ℕ). entries_of_record s c.loop-entry.self-inside.begun) (sym bytes))
           (omega (arith, count, c.count_selectors-count.ensures.value));
       bytes = bytes;
     }
