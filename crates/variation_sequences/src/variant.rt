@@ -1,5 +1,6 @@
 //! What a subtable says of a selector and a code. OpenType 1.9, cmap, Format 14: Unicode variation sequences.
 ghost use Rattle.std.specs.Prelude.{◌≡◌};
+ghost use Rattle.variation_sequences.specs.Pairs.{pair_of};
 ghost use Rattle.variation_sequences.specs.Sequences.{variant_glyph};
 
 /// What is drawn for a code with a selector after it.
@@ -43,4 +44,20 @@ pub fn variant_glyph(found: Option<Variant>, of_code: u16, glyphs: u16) -> u16
         Some(Variant::Unchanged) => of_code,
         Some(Variant::Glyph(glyph)) => { if glyph < glyphs { glyph } else { 0 } }
     }
+}
+
+/// Returns the pair of what a subtable says, or `None` where it has no glyph among so many. `of_code` is the glyph of the
+/// code in the map of the font.
+pub fn pair_of(entry: Entry, of_code: u16, glyphs: u16) -> Option<Pair>
+    ensures { result ≡ pair_of glyphs of_code entry }
+{
+    let glyph = variant_glyph(Some(entry.variant), of_code, glyphs);
+    if glyph == 0 {
+        return None;
+    }
+    Some(Pair {
+        selector: entry.selector,
+        code: entry.code,
+        glyph,
+    })
 }
