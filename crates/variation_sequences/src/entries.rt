@@ -71,8 +71,10 @@ impl<'a> Model for RecordEntries<'a> {
 
     ghost view = { λ e. entries_in e.selector e.ranges e.mappings e.from };
 
-    ghost invariant = { λ e. (is_ascending (range_first e.ranges) (range_last e.ranges) (list_count e.ranges) ≡ true)
-        × (is_ascending (mapping_code e.mappings) (mapping_code e.mappings) (list_count e.mappings) ≡ true) };
+    ghost invariant = { λ e.
+        (is_ascending (range_first e.ranges) (range_last e.ranges) (list_count e.ranges) ≡ true)
+        × (is_ascending (mapping_code e.mappings) (mapping_code e.mappings) (list_count e.mappings)
+        ≡ true) };
 }
 
 impl<'a> RecordEntries<'a> {

@@ -48,7 +48,8 @@ pub(crate) fn place_near<S: Spans>(spans: &S, hint: usize, code: u32) -> usize
 pub(crate) fn member_at<S: Spans>(spans: &S, place: usize, code: u32) -> Option<usize>
     requires order { is_ascending (S.first_of spans.now) (S.end_of spans.now) (S.count_of spans.now) ≡ true }
     requires place { IsFirstReaching (S.end_of spans.now) (S.count_of spans.now) code place }
-    ensures value { result ≡ member_with (S.first_of spans.now) (S.end_of spans.now) (S.count_of spans.now) code }
+    ensures value { result
+        ≡ member_with (S.first_of spans.now) (S.end_of spans.now) (S.count_of spans.now) code }
     ensures within { IfSome result (λ k. k < S.count_of spans.now) }
 {
     if spans.count() <= place {
@@ -63,7 +64,8 @@ pub(crate) fn member_at<S: Spans>(spans: &S, place: usize, code: u32) -> Option<
 /// Returns the place of the member that has a code.
 pub(crate) fn find_member<S: Spans>(spans: &S, code: u32) -> Option<usize>
     requires { is_ascending (S.first_of spans.now) (S.end_of spans.now) (S.count_of spans.now) ≡ true }
-    ensures value { result ≡ member_with (S.first_of spans.now) (S.end_of spans.now) (S.count_of spans.now) code }
+    ensures value { result
+        ≡ member_with (S.first_of spans.now) (S.end_of spans.now) (S.count_of spans.now) code }
     ensures within { IfSome result (λ k. k < S.count_of spans.now) }
 {
     member_at(spans, place_near(spans, ANYWHERE, code), code)
@@ -74,7 +76,8 @@ pub(crate) fn find_member<S: Spans>(spans: &S, code: u32) -> Option<usize>
 pub(crate) fn next_code<S: Spans>(spans: &S, place: usize, from: u32) -> u32
     requires order { is_ascending (S.first_of spans.now) (S.end_of spans.now) (S.count_of spans.now) ≡ true }
     requires place { IsFirstReaching (S.end_of spans.now) (S.count_of spans.now) from place }
-    ensures { IsNextCode (S.first_of spans.now) (S.end_of spans.now) (S.count_of spans.now) from place result }
+    ensures { IsNextCode (S.first_of spans.now) (S.end_of spans.now) (S.count_of spans.now) from place
+        result }
 {
     if spans.count() <= place {
         return CODES;

@@ -46,8 +46,8 @@ pub fn variant_glyph(found: Option<Variant>, of_code: u16, glyphs: u16) -> u16
     }
 }
 
-/// Returns the pair of what a subtable says, or `None` where it has no glyph among so many. `of_code` is the glyph of the
-/// code in the map of the font.
+/// Returns the pair of what a subtable says, or `None` where it has no glyph among so many. `of_code` is the glyph of
+/// the code in the map of the font.
 pub fn pair_of(entry: Entry, of_code: u16, glyphs: u16) -> Option<Pair>
     ensures { result ≡ pair_of glyphs of_code entry }
 {
