@@ -1,0 +1,11 @@
+pub mod ByteLemmas
+pub mod CountLemmas
+pub mod EntryLemmas
+pub mod FoundLemmas
+pub mod GroupLemmas
+pub mod PlaceLemmas
+pub mod ReadBackLemmas
+pub mod ReadLemmas
+pub mod SpanLemmas
+pub mod StrictLemmas
+pub mod WrittenLemmas

@@ -1,0 +1,15 @@
+use Rattle.std.proofs.Common.{◌≡◌, ◌-◌, ◌++◌}
+use Rattle.variation_sequences.specs.Format14.{selector_count}
+use Rattle.variation_sequences.specs.Sequences.{entries_from}
+use Rattle.variation_sequences.proofs.entries.EntriesIterator.next.Given as goal
+
+-- what is left stays the same until an entry is given
+abbrev pub invariant-loop-entry : goal.invariant-loop-entry
+invariant-loop-entry l = let now = l.self-inside in let old = l.initial.self-inside in
+    record {
+      left : now.now ++ entries_from now.bytes.now now.begun ≡ old.now ++ entries_from old.bytes.now old.begun;
+      bytes : now.bytes.now ≡ old.bytes.now;
+    }
+
+abbrev pub decreases-loop-entry : goal.decreases-loop-entry
+decreases-loop-entry l = l.count - l.self-inside.begun

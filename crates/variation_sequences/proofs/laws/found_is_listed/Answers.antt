@@ -1,0 +1,5 @@
+use Rattle.variation_sequences.proofs.FoundLemmas as FoundLemmas
+use Rattle.variation_sequences.proofs.laws.found_is_listed.Goals as goal
+
+pub returns : goal.returns
+returns c = FoundLemmas.found_is_listed

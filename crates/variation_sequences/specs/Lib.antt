@@ -1,0 +1,9 @@
+pub mod Encoding
+pub mod Format14
+pub mod Inside
+pub mod Laws
+pub mod Pairs
+pub mod Sequences
+pub mod Spans
+pub mod Strict
+pub mod Written
