@@ -9,8 +9,8 @@ const KNOWN = `cmap head hhea hmtx maxp name OS/2 post cvt fpgm glyf loca prep C
 const OTHER = 63;
 // The version of the transformation that leaves outlines as they are. For other tables 0 is that.
 const PLAIN = 3 << 6;
-// How many times its own length a file may unpack to: browsers refuse one that unpacks to more, as that of a few glyphs of
-// a large font does.
+// How many times its own length a file may unpack to: browsers refuse one that unpacks to more, as that of a few glyphs
+// of a large font does.
 const MOST_RATIO = 100;
 
 // A number in groups of seven bits, of which the last is marked by its first bit (UIntBase128).

@@ -16,10 +16,9 @@ loop-letter-preserved-in-Continue-1 c =
     let have : List CodeRange → ℕ → Type 0 = λ ranges code. wanted_by ranges code ≡ true in
     let kept : (code : ℕ) → have before code → have after code =
     λ code is. subst (λ ranges. have ranges code) pushed (wanted_by_kept before _ code is) in
-    let added : have after letter = subst (λ ranges. have ranges letter) pushed (wanted_by_added before letter) in (
-      All-push (have after) c.loop-letter.yielded letter (λ k d less. kept _ (c.loop-letter.invariant.0 k d less)) added,
-      λ code is. kept code (c.loop-letter.invariant.1 code is),
-    )
+    let added : have after letter = subst (λ ranges. have ranges letter) pushed (wanted_by_added before letter) in
+    let all : All (have after) c.loop-letter.yielded = λ k d less. kept _ (c.loop-letter.invariant.0 k d less) in
+    (All-push (have after) _ letter all added, λ code is. kept code (c.loop-letter.invariant.1 code is))
 
 pub returns : goal.returns
 returns c =
