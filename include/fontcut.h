@@ -192,10 +192,10 @@ fontcut_answer fontcut_subsets(const fontcut_request *requests, size_t request_c
 
 /* Writes the glyphs that a shaper may put to the front of `out`, ascending: those that GSUB, as cuts of the kind keep
  * it, leads to from .notdef, from the glyphs of the characters of the ranges, and from the glyphs of the request; size:
- * how many they are. With these and the same ranges, a cut without FONTCUT_CLOSES is byte for byte the one with it.
- * FONTCUT_CLOSES changes nothing here. `room` is in glyphs, of which a font has 65,535 at most. Statuses: 105; 101; 104;
- * those of fontcut_check, then 15, 102, for FONTCUT_LAYOUT 5, 6 and 27, for FONTCUT_VARIABLE 5, 6, 27 and 28, then 16,
- * 100. */
+ * how many they are. Whatever GSUB makes of these, in any order, script and feature, is among them. With these and the
+ * same ranges, a cut without FONTCUT_CLOSES is byte for byte the one with it. FONTCUT_CLOSES changes nothing here.
+ * `room` is in glyphs, of which a font has 65,535 at most. Statuses: 105; 101; 104; those of fontcut_check, then 15,
+ * 102, for FONTCUT_LAYOUT 5, 6 and 27, for FONTCUT_VARIABLE 5, 6, 27 and 28, then 16, 100. */
 fontcut_answer fontcut_closure(const fontcut_request *request, const uint8_t *font, size_t font_length, uint16_t *out,
                                size_t room);
 

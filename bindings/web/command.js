@@ -7,8 +7,9 @@ import { basename, dirname, join as pathOf, resolve } from 'node:path';
 import { parseArgs } from 'node:util';
 import { belongs, check, codes, cuts, cutForm, FontcutError, glyphs, init, initTexts, join, metrics, needed, ranges,
     subset, version } from './fontcut.js';
-import { KINDS, LAYOUT_TABLES, NO_GLYPH, SHAPED, charactersOf, codesIn, kindWhere, rangeWord, shared }
+import { KINDS, LAYOUT_TABLES, NO_GLYPH, NO_MEMORY, SHAPED, charactersOf, codesIn, kindWhere, rangeWord, shared }
     from './kinds.js';
+import { formatOf, lossesOf, recordsOf } from './losses.js';
 import { slices } from './slices.js';
 import { woff2 } from './woff2.js';
 
@@ -26,14 +27,16 @@ const HELP = `fontcut in node: subsets that keep glyph ids, and their joins
 Arguments are those of the program; its manual page lists more. FONT and OUT may be -, for standard input and output.
 An OUT that ends in .woff2 is a WOFF2 file, and with --woff2 slices are too, beside those that join. SLICES are a file
 with a name and ranges in each line, or a preset, as web or japanese; those of no character of the font are not written.
---quiet stands anywhere: of messages only the first line is printed. check prints no findings here, only whether the
-font is accepted, and subset does not say what a cut drops.
+--quiet stands anywhere: of messages only the first line is printed, and what a cut lacks or drops is not said. check
+prints no findings here, only whether the font is accepted.
 
 Exit status: 0 done; 1 a font is refused, belongs says no, or out of memory; 2 usage error; 3 a file cannot be read or
 written.
 `;
 const FLAG = { type: 'boolean' }, LIST = { type: 'string', multiple: true };
 const KIND_FLAGS = { lean: FLAG, layout: FLAG, variable: FLAG };
+// Options of the program that no command has here.
+const OF_PROGRAM = ['verbose', 'complete', 'exclude', 'exclude-file', 'gids-file', 'report', 'strict', 'drop', 'help'];
 const COMMANDS = {
     subset: {
         run: runSubset, options: {
@@ -56,9 +59,10 @@ const COMMANDS = {
 
 // What ends the command: a line for standard error, and the exit status.
 class Failed extends Error {
-    constructor(status, text) {
+    constructor(status, text, front = 'fontcut') {
         super(text);
         this.status = status;
+        this.front = front;
     }
 }
 
@@ -135,25 +139,32 @@ function text(data, path) {
 
 const withoutControls = (one) => one.replace(/\p{Cc}/gu, '');
 
-// The codes of the texts of a line. Each text by itself brings what a shaper takes for it. The control characters of a
-// file are not kept, and are taken out last: no characters compose across them.
-function codesOfTexts(given, kind) {
-    const brings = SHAPED.includes(kind) && !given.exactly ? needed : (one) => one;
-    const files = (given['text-file'] ?? []).map((path) => text(read(path), path)).filter(withoutControls);
-    const wanted = [...(given.text ?? []).map(brings), ...files.map((one) => withoutControls(brings(one)))];
-    return wanted.flatMap(charactersOf);
+// The texts of a line, of which files keep no control characters.
+function textsOf(given) {
+    const files = (given['text-file'] ?? [])
+        .map((path) => ({ option: path, text: text(read(path), path), isFile: true }));
+    return [...(given.text ?? []).map((one) => ({ option: '--text', text: one })), ...files];
 }
 
-function codesOfLists(given, words) {
+// The codes of texts. Each text by itself brings what a shaper takes for it. Control characters are taken out last: no
+// characters compose across them.
+function codesOfTexts(texts, brings) {
+    const codesOf = ({ text, isFile }) => isFile && !withoutControls(text) ? ''
+        : isFile ? withoutControls(brings(text)) : brings(text);
+    return texts.flatMap((one) => charactersOf(codesOf(one)));
+}
+
+// The lists of codes of a line, each with its ranges and with what names it.
+function listsOf(given, words) {
     const bad = words.find((word) => !/^(all|everything|U\+[0-9A-F]{1,6}(-(U\+)?[0-9A-F]{1,6})?)$/i.test(word));
     if (bad !== undefined) {
         throw new Failed(2, `bad word ${bad}: write U+41, U+41-5A or all, and texts with --text`);
     }
-    const files = (given['codes-file'] ?? []).map((path) => text(read(path), path));
+    const files = (given['codes-file'] ?? []).map((path) => [path, text(read(path), path)]);
     // Only in a file can a line have the columns of `codes --glyphs`, which have blanks between them.
-    const lists = (given.unicodes ?? []).map((list) => list.replaceAll(' ', ','));
-    const every = [...words.map((word) => word === 'everything' ? 'all' : word), ...lists, ...files];
-    return every.flatMap((list) => ranges(list));
+    const lists = (given.unicodes ?? []).map((list) => ['--unicodes', list.replaceAll(' ', ',')]);
+    const every = [...words.map((word) => ['', word === 'everything' ? 'all' : word]), ...lists, ...files];
+    return every.map(([option, list]) => ({ option, ranges: ranges(list) }));
 }
 
 // Glyph numbers of lists, such as 5,7-9,0x1F.
@@ -181,13 +192,62 @@ function runSubset(given, [font, out, ...words]) {
     if (kind === 'full' && (isAll || given.gids)) {
         throw new Failed(2, 'glyphs by their numbers are for --lean, --layout and --variable');
     }
-    const unicodes = [...codesOfTexts(given, kind), ...codesOfLists(given, words)];
-    const gids = isAll ? 'all' : gidsOf(given.gids ?? []);
+    const texts = textsOf(given), lists = listsOf(given, words), listed = lists.flatMap((one) => one.ranges);
+    const own = codesOfTexts(texts, (one) => one);
+    const added = SHAPED.includes(kind) && !given.exactly ? codesOfTexts(texts, needed) : [];
+    const unicodes = [...own, ...added, ...listed], gids = isAll ? 'all' : gidsOf(given.gids ?? []);
     const data = read(font);
     if (standsApart(given, out, [font])) {
         keepFont(given, out, font, data, `subset ${out} OUT cuts the font`);
+    } else {
+        keepItself(given, out, font, data, kind);
     }
-    writeFont(out, cutOf(data, { unicodes, gids, kind, layoutClosure: !given['no-layout-closure'] }));
+    writeFont(out, refusing(given, font, data, () =>
+        cutOf(data, { unicodes, gids, kind, layoutClosure: !given['no-layout-closure'] })));
+    if (!given.quiet) {
+        const asked = { wanted: pairsOf(unicodes), named: pairsOf([...own, ...listed]), texts: pairsOf(own),
+            hasGlyphs: isAll || Boolean(given.gids) };
+        const paths = (given.text ?? []).filter((one) => one !== '-' && isFile(one)).map((path) =>
+            `${shownName(path)} is a file: --text keeps the characters of its path, --text-file those in it`);
+        say([...emptyOf(given, texts, lists), ...lossesOf(shownName(font), data, kind, asked), ...paths]);
+    }
+}
+
+const pairsOf = (codes) => codes.map((code) => typeof code === 'number' ? [code, code] : code);
+
+const say = (lines) => process.stderr.write(lines.map((line) => `fontcut: ${line}\n`).join(''));
+
+// What messages call a file that is read, with its control characters as numbers.
+const shownName = (path) => path === '-' ? 'standard input'
+    : path.replace(/\p{Cc}/gu, (sign) => `\\x${sign.codePointAt(0).toString(16).padStart(2, '0')}`);
+
+// What is said of options and files that name nothing, as where a variable of a shell is empty.
+function* emptyOf(given, texts, lists) {
+    const empty = [...texts.filter((one) => !(one.isFile ? withoutControls(one.text) : one.text)),
+        ...lists.filter((one) => !one.ranges.length)];
+    for (const { option } of empty) {
+        yield option.startsWith('--') ? `${option} is empty: it names no character`
+            : `${shownName(option)} names no character`;
+    }
+    for (const list of given.gids ?? []) {
+        if (!gidsOf([list]).length) {
+            yield '--gids is empty: it names no glyph';
+        }
+    }
+}
+
+// Runs work with the font at a path. Of one that is refused it is said what the file is.
+function refusing(given, path, data, work) {
+    try {
+        return work();
+    } catch (error) {
+        if (!(error instanceof FontcutError) || error.number === NO_MEMORY || given.quiet) {
+            throw error;
+        }
+        const what = path === '-' ? undefined : formatOf(data, error.text);
+        const name = shownName(path), more = what ? `${name}: ${what}` : `${name} is refused`;
+        throw new Failed(1, `refused ${error.number} ${error.text}\nfontcut: ${more}`);
+    }
 }
 
 const writeFont = (out, data) => write(out, /\.woff2$/i.test(out) ? woff2(data) : data);
@@ -233,7 +293,7 @@ async function runSlice(given, [path, folder, ...more]) {
         throw new Failed(2, 'slice takes FONT, FOLDER and --slices SLICES');
     }
     const kind = kindOf(given), font = read(path);
-    check(font);
+    refusing(given, path, font, () => check(font));
     const every = await slicesOf(given, font), wanted = every.filter((one) => one.unicodes);
     const said = every.filter((one) => !one.unicodes)
         .map((one) => `slice ${one.name}: the font maps none of its characters`);
@@ -247,7 +307,7 @@ async function runSlice(given, [path, folder, ...more]) {
             throw new Failed(2, `${out} is a file already, and no cut: --force replaces it`);
         }
     }
-    const made = cuts(font, wanted, { kind, quiet: true });
+    const made = refusing(given, path, font, () => cuts(font, wanted, { kind, quiet: true }));
     wanted.forEach((one, i) => {
         write(outs[i], made[i]);
         const packed = outs[i].replace(/ttf$/, 'woff2');
@@ -258,7 +318,11 @@ async function runSlice(given, [path, folder, ...more]) {
             print(ruleOf(given.css, basename(given.woff2 ? packed : outs[i]), one.unicodes));
         }
     });
-    process.stderr.write(given.quiet ? '' : said.map((line) => `fontcut: ${line}\n`).join(''));
+    if (!given.quiet) {
+        const every = wanted.flatMap((one) => ranges(one.unicodes));
+        const asked = { wanted: every, named: every, texts: [], hasGlyphs: true };
+        say([...said, ...lossesOf(shownName(path), font, kind, asked)]);
+    }
 }
 
 const isCut = (data) => kindWhere((kind) => cutForm(data, { kind }) !== 'none') !== undefined;
@@ -269,13 +333,6 @@ const isFile = (path) => path !== '-' && existsSync(path) && statSync(path).isFi
 function standsApart(given, out, files) {
     const isOut = (file) => isFile(file) && realpathSync(file) === realpathSync(out);
     return !given.force && isFile(out) && !files.some(isOut);
-}
-
-// The places of the records of the tables of a font, by their tags.
-function recordsOf(font) {
-    const count = font.length < 12 ? 0 : Math.min(font.readUInt16BE(4), Math.floor((font.length - 12) / 16));
-    const places = Array.from({ length: count }, (_, i) => 12 + 16 * i);
-    return new Map(places.map((at) => [font.toString('latin1', at, at + 4), at]));
 }
 
 // A font as if it lacked the layout tables that a cut lacks, which may be one without them.
@@ -327,6 +384,16 @@ function checkName(given, out) {
     }
 }
 
+// Fails if a lean, layout or variable cut would replace its font.
+function keepItself(given, out, font, data, kind) {
+    const isSame = isFile(font) && isFile(out) && realpathSync(font) === realpathSync(out);
+    if (given.force || kind === 'full' || !isSame || isCut(data)) {
+        return;
+    }
+    const more = given.quiet ? '' : `\nfontcut: name another OUT; --force replaces ${font}`;
+    throw new Failed(2, `${font} is the font, and its cut would replace it: nothing was written${more}`);
+}
+
 function runJoin(given, words) {
     const [out, ...files] = given.output === undefined ? words : [given.output, ...words];
     if (out === undefined || !files.length) {
@@ -336,12 +403,12 @@ function runJoin(given, words) {
         throw new Failed(2, `${out} would be replaced by one file: write join -o ${out} ${files[0]}`);
     }
     checkName(given, out);
-    const kind = kindOf(given), parts = files.map(read);
+    const isNamed = KINDS.some((kind) => given[kind]), kind = kindOf(given), parts = files.map(read);
     const first = files.findIndex(isFile);
     if (first >= 0 && standsApart(given, out, files)) {
         keepFont(given, out, files[first], parts[first], 'name another OUT');
     }
-    writeFont(out, join(parts, { kind }));
+    writeFont(out, join(parts, isNamed ? { kind } : {}));
 }
 
 function runBelongs(given, words) {
@@ -381,7 +448,7 @@ function runCodes(given, words) {
     if (words.length !== 1) {
         throw new Failed(2, 'codes takes FONT');
     }
-    const font = read(words[0]), pairs = codes(font);
+    const font = read(words[0]), pairs = refusing(given, words[0], font, () => codes(font));
     if (!given.glyphs) {
         print(pairs.map((pair) => `${rangeWord(pair, 'U+')}\n`).join(''));
         return;
@@ -389,6 +456,33 @@ function runCodes(given, words) {
     const all = codesIn(pairs);
     const numbers = glyphs(font, all), widths = metrics(font, numbers);
     print(all.map((code, i) => `${rangeWord([code, code], 'U+')} ${numbers[i]} ${widths[i].advance}\n`).join(''));
+}
+
+// How alike two words are, from 0 to 1, by the letters that both have in about the same order (Jaro).
+function likeness(one, other) {
+    const reach = Math.max(0, Math.floor(Math.max(one.length, other.length) / 2) - 1), taken = new Set();
+    const common = [...one].filter((letter, i) => {
+        const at = [...other].findIndex((its, j) => its === letter && Math.abs(i - j) <= reach && !taken.has(j));
+        return at >= 0 && taken.add(at);
+    });
+    const theirs = [...other].filter((_, j) => taken.has(j)), count = common.length;
+    const moved = common.filter((letter, i) => letter !== theirs[i]).length / 2;
+    return count ? (count / one.length + count / other.length + (count - moved) / count) / 3 : 0;
+}
+
+// Fails at an option that the program does not have either, with the words of the program. One that only node lacks is
+// said otherwise, when the words are read.
+function checkOptions(words, options) {
+    const end = words.indexOf('--'), given = end < 0 ? words : words.slice(0, end);
+    for (const [, name] of given.map((word) => /^--([^=]+)/.exec(word)).filter(Boolean)) {
+        if (!Object.hasOwn(options, name) && !OF_PROGRAM.includes(name)) {
+            const [best] = Object.keys(options).filter((one) => one.startsWith(name.slice(0, 3)))
+                .sort((one, other) => likeness(name, other) - likeness(name, one));
+            const tip = best && likeness(name, best) > 0.7 ? `  tip: a similar argument exists: '--${best}'\n\n` : '';
+            throw new Failed(2, `unexpected argument '--${name}' found\n\n${tip}For more information, try '--help'.`,
+                'error');
+        }
+    }
 }
 
 // The arguments with the command first: as in the program, --quiet may stand before it.
@@ -420,6 +514,7 @@ async function statusOf(line) {
         return 0;
     }
     const { run, options } = COMMANDS[name];
+    checkOptions(words, options);
     const { values, positionals } = parseArgs({ args: words, options, allowPositionals: true });
     return run(values, positionals) ?? 0;
 }
@@ -428,7 +523,8 @@ async function statusOf(line) {
 function told(error) {
     if (error instanceof FontcutError) {
         const file = error.file === undefined ? '' : `file ${error.file + 1}: `;
-        return [1, `${file}refused ${error.number} ${error.text}`];
+        const more = error.kind ? `\nfontcut: ${error.kind} cuts are joined by join --${error.kind}` : '';
+        return [1, `${file}refused ${error.number} ${error.text}${more}`];
     }
     if (error instanceof Failed) {
         return [error.status, error.message];
@@ -446,6 +542,6 @@ try {
     process.exitCode = await statusOf(process.argv.slice(2));
 } catch (error) {
     const [status, line] = told(error);
-    process.stderr.write(`fontcut: ${line}\n`);
+    process.stderr.write(`${error.front ?? 'fontcut'}: ${line}\n`);
     process.exitCode = status;
 }

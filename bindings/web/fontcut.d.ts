@@ -66,6 +66,8 @@ export class FontcutError extends Error {
     readonly argument?: string | number;
     /** Of several files the index of the one that is refused, from 0; the message counts from 1. */
     readonly file?: number;
+    /** The kind of which that file is a cut, if it was joined without a kind. */
+    readonly kind?: Kind;
 }
 
 /** A font that stays in the module's memory and is tested once. */

@@ -12,8 +12,8 @@
 // A font is an ArrayBuffer or a view of one. Calls are synchronous: a worker keeps a long one off the page's thread.
 // Each call copies what it reads into a module's memory, and frees all that it took when it returns or throws.
 
-import { FontcutError, KINDS, NO_GLYPH, NO_MEMORY, SHAPED, SMALL_ROOM, charactersOf, kindWhere, merged, pairsIn,
-    rangeWord } from './kinds.js';
+import { FontcutError, KINDS, NOT_A_CUT, NO_GLYPH, NO_MEMORY, SHAPED, SMALL_ROOM, charactersOf, kindWhere, merged,
+    pairsIn, rangeWord } from './kinds.js';
 import { Areas, Module, bytesOf, tagOf } from './module.js';
 import { initTexts, needed, ranges, rangesNeeded, texts } from './texts.js';
 
@@ -273,15 +273,32 @@ export function keptGlyphs(font, options) {
     }).buffer);
 }
 
-/** The join of cuts of one font, all of one kind: that font's cut for the characters and glyphs of all of them. */
+// The error for a file that is joined as a full cut, with the kind of which it is a cut.
+function withKind(error, files) {
+    const { number, text, argument, file } = error;
+    if (!(error instanceof FontcutError) || number !== NOT_A_CUT || file === undefined) {
+        return error;
+    }
+    const found = kindWhere((kind) => cutForm(files[file], { kind }) !== 'none', KINDS.slice(1));
+    return new FontcutError(number, text, argument, file, found);
+}
+
+/**
+ * The join of cuts of one font, all of one kind: that font's cut for the characters and glyphs of all of them. If no kind
+ * is named and a file is a cut of another one, the error names that.
+ */
 export function join(files, options) {
     const kind = kindOf(options), given = Array.from(files);
-    return within((areas) => {
-        const places = given.map((one) => areas.file(one));
-        const list = areas.numbers(BigUint64Array, places.flat(), 2);
-        const room = places.reduce((sum, [, length]) => sum + Number(length), 4096);
-        return areas.written(room, 1, (...out) => areas.answer('join', kind, ...list, ...out), true);
-    });
+    try {
+        return within((areas) => {
+            const places = given.map((one) => areas.file(one));
+            const list = areas.numbers(BigUint64Array, places.flat(), 2);
+            const room = places.reduce((sum, [, length]) => sum + Number(length), 4096);
+            return areas.written(room, 1, (...out) => areas.answer('join', kind, ...list, ...out), true);
+        });
+    } catch (error) {
+        throw options?.kind === undefined ? withKind(error, given) : error;
+    }
 }
 
 /** The code points that a font maps, as pairs of the first and the last of a range, ascending. */

@@ -11,22 +11,25 @@ export const LAYOUT_TABLES = ['BASE', 'GDEF', 'GPOS', 'GSUB', 'kern'];
 /** Statuses of include/fontcut.h, and those whose detail is a tag or a number. */
 export const DONE = 0, SMALL_ROOM = 100, NO_GLYPH = 102, NO_NUMBERS = 104, BAD_TEXT = 106;
 // Written by tools/write_refusals from include/refusals.txt:
-export const NO_MEMORY = 16, TOO_LARGE = 18, NOTHING_TO_JOIN = 24;
+export const NO_MEMORY = 16, TOO_LARGE = 18, NOT_A_CUT = 20, NOTHING_TO_JOIN = 24;
 export const OF_TAGS = [5, 6, 7, 21, 29], OF_NUMBERS = [12, 15, 17, 22, 23, NO_GLYPH];
 // End of what tools/write_refusals writes.
 
 /**
  * A font or a list of cuts is refused, or out of memory: `number` and `text` are those that `fontcut` prints, but for a
- * number that is no glyph of the font, which is named by its place in the list.
+ * number that is no glyph of the font, which is named by its place in the list. `kind` is the one of which a file is a
+ * cut that is joined without a kind.
  */
 export class FontcutError extends Error {
-    constructor(number, text, argument, file) {
-        super(file === undefined ? text : `file ${file + 1}: ${text}`);
+    constructor(number, text, argument, file, kind) {
+        const which = file === undefined ? '' : `file ${file + 1}: `;
+        super(which + text + (kind ? `; ${kind} cuts are joined with kind: '${kind}'` : ''));
         this.name = 'FontcutError';
         this.number = number;
         this.text = text;
         this.argument = argument;
         this.file = file;
+        this.kind = kind;
     }
 }
 

@@ -26,16 +26,14 @@ static void font_layout_rule_read_reverse_rule(u8 *v0, u8 *v1, u64 v2, u64 v3);
 static NOINLINE void font_layout_walk_Steps_next_part(u8 *v0, u8 *v1);
 static void font_subset_font_to_cut_closing_refusal(u8 *v0, u8 *v1, u8 *v2);
 static void font_subset_further_tables_FixedTable_of_1948(u8 *v0, u8 *v1, u64 v2);
-static void font_subset_further_tables_FurtherTables_variations(u8 *v0, u8 *v1);
 static void font_subset_kind_source_CutOfKind_of_1490(u8 *v0, u8 *v1);
 static void font_subset_presence_mark_between(u8 *v0, u8 *v1, u16 v2, u16 v3);
 static void font_subset_selection_mark_roots(u8 *v0, u8 *v1, u8 *v2, u8 *v3);
-static void font_variations_gvar_Variations_open(u8 *v0, u8 *v1, u64 v2, u8 *v3, u16 v4);
 static u8_u64 font_write_size_table_length_895b(u8 *v0, u8 *v1, u64 v2);
 static u8_u64 font_write_size_table_length_a65d(u8 *v0, u8 v1, u8 *v2, u64 v3);
 static flag font_write_whole_file_is_whole_file(u8 *v0, u8 v1, u8 *v2, u8 *v3, u64 v4);
 
-void divided_tables_made_tables_MadeTables_drop(u8 *v0) {
+void divided_tables_all_tables_MadeTables_drop(u8 *v0) {
     u8 v2 = at(u8, v0);
     u8 *v4 = at(ptr_1, v0 + 8);
     u64 v6 = at(u64_1, v0 + 24);
@@ -59,388 +57,544 @@ v38:;
     return;
 }
 
-void divided_tables_made_tables_MadeTables_frames(u8 *v0, u8 *v1) {
-    _Alignas(8) u8 v3[1], v4[80], v5[32], v6[24], v7[40], v8[40], v9[24];
-    u64 v36, v100, v110, v113, v121, v123, v153, v146, v163, v172, v174, v214, v245;
-    u8 *v79, *v173, *v232;
-    flag v171;
-    memset(v7, 0, 40u);
+void divided_tables_all_tables_MadeTables_frames(u8 *v0, u8 *v1) {
+    _Alignas(8) u8 v3[1], v4[32], v5[24], v7[40], v8[40], v9[24], v10[160], v11[24];
+    u8 v6[31], *v81, *v175;
+    u64 v38, v102, v112, v115, v123, v125, v155, v148, v165, v174, v176, v219;
+    flag v173;
+    memset(v10, 0, 160u);
+    memset(v11, 0, 24u);
+    divided_tables_all_tables_OpenTables_of_112b(v10, v1);
     memset(v8, 0, 40u);
-    memset(v9, 0, 24u);
-    divided_tables_metrics_metrics_frame(v7, v1, 7, 8);
-    u8 v12 = at(u8, v7 + 8);
-    if (!(at(u8, v7) == 0)) goto v15;
-    u8 *v17 = at(ptr, v7 + 16);
-    u64 v19 = at(u64, v7 + 24);
-    u64 v21 = at(u64, v7 + 32);
-    u64 v22 = (u64)v12;
-    u8 *v25 = at(ptr_1, at(ptr, v1 + 8));
-    u64 v26 = (u64)v25;
-    u16 v28 = at(u16_1, v25 + 4);
-    u64 v30 = (u64)bswap16(v28);
-    if (v28 == 0) { v171 = 1; v172 = 0; v173 = (u8 *)0; v174 = 0; goto v32; }
-    v36 = 0;
-v33:;
-    u64 v38 = v36 << 4;
-    if (!((((at(u8, v25 + (i64)v38 + 12) == 112u) & (at(u8, v25 + (i64)v38 + 13) == 111u)) & (at(u8, v25 + (i64)v38 + 14) == 115u)) & (at(u8, v25 + (i64)v38 + 15) == 116u))) goto v34;
-    u32 v60 = at(u32_1, v25 + (i64)v38 + 24);
-    u32 v61 = bswap32(v60);
-    u64 v62 = (u64)bswap32(at(u32_1, v25 + (i64)v38 + 20));
-    u64 v63 = (u64)v61;
-    if (!(v61 < 32u)) goto v67;
-    if (v60 == 0) { v79 = v3; goto v69; }
-    u64_u64 v72 = sys_rattle_alloc(v63, 1);
-    if (!(v72._0 & 1)) goto v76;
-    v79 = (u8 *)v72._1;
-v69:;
-    u64 v80 = (u64)v79;
-    if (!((((u64)v79) - ((u64)(v25 + (i64)v62))) < v63)) goto v86;
-    if (v61 < 4) { v121 = 0; goto v88; }
-    if ((v80 - (v26 + v62)) < 32u) { v121 = 0; goto v88; }
-    if (v61 < 16u) { v110 = 0; goto v95; }
-    u64 v97 = v63 & 12u;
-    u64 v98 = v63 & 16u;
-    v100 = 0;
-v99:;
-    at(u8x16_1, v79 + v100) = at(u8x16_1, (v25 + (i64)v62) + v100);
-    u64 v101 = v100 + 16u;
-    if (!(v101 == v98)) { v100 = v101; goto v99; }
-    if (v98 == v63) { v171 = 0; v172 = 1; v173 = v79; v174 = v63; goto v32; }
-    if (v97 == 0) { v121 = v98; goto v88; }
-    v110 = v98;
-v95:;
-    u64 v111 = v63 & 28u;
-    v113 = v110;
-v112:;
-    at(u8x4_1, v79 + v113) = at(u8x4_1, (v25 + (i64)v62) + v113);
-    u64 v114 = v113 + 4;
-    if (!(v114 == v111)) { v113 = v114; goto v112; }
-    if (v111 == v63) { v171 = 0; v172 = 1; v173 = v79; v174 = v63; goto v32; }
-    v121 = v111;
+    divided_tables_metrics_metrics_frame(v8, v1, 7, 8);
+    u8 v14 = at(u8, v8 + 8);
+    u8 *v16 = at(ptr, v8 + 16);
+    u64 v18 = at(u64, v8 + 24);
+    u64 v20 = at(u64, v8 + 32);
+    if (!(at(u8, v8) == 0)) goto v23;
+    u64 v24 = (u64)v14;
+    u8 *v27 = at(ptr_1, at(ptr, v1 + 8));
+    u64 v28 = (u64)v27;
+    u16 v30 = at(u16_1, v27 + 4);
+    u64 v32 = (u64)bswap16(v30);
+    if (v30 == 0) { v173 = 1; v174 = 0; v175 = (u8 *)0; v176 = 0; goto v34; }
+    v38 = 0;
+v35:;
+    u64 v40 = v38 << 4;
+    if (!((((at(u8, v27 + (i64)v40 + 12) == 112u) & (at(u8, v27 + (i64)v40 + 13) == 111u)) & (at(u8, v27 + (i64)v40 + 14) == 115u)) & (at(u8, v27 + (i64)v40 + 15) == 116u))) goto v36;
+    u32 v62 = at(u32_1, v27 + (i64)v40 + 24);
+    u32 v63 = bswap32(v62);
+    u64 v64 = (u64)bswap32(at(u32_1, v27 + (i64)v40 + 20));
+    u64 v65 = (u64)v63;
+    if (!(v63 < 32u)) goto v69;
+    if (v62 == 0) { v81 = v3; goto v71; }
+    u64_u64 v74 = sys_rattle_alloc(v65, 1);
+    if (!(v74._0 & 1)) goto v78;
+    v81 = (u8 *)v74._1;
+v71:;
+    u64 v82 = (u64)v81;
+    if (!((((u64)v81) - ((u64)(v27 + (i64)v64))) < v65)) goto v88;
+    if (v63 < 4) { v123 = 0; goto v90; }
+    if ((v82 - (v28 + v64)) < 32u) { v123 = 0; goto v90; }
+    if (v63 < 16u) { v112 = 0; goto v97; }
+    u64 v99 = v65 & 12u;
+    u64 v100 = v65 & 16u;
+    v102 = 0;
+v101:;
+    at(u8x16_1, v81 + v102) = at(u8x16_1, (v27 + (i64)v64) + v102);
+    u64 v103 = v102 + 16u;
+    if (!(v103 == v100)) { v102 = v103; goto v101; }
+    if (v100 == v65) { v173 = 0; v174 = 1; v175 = v81; v176 = v65; goto v34; }
+    if (v99 == 0) { v123 = v100; goto v90; }
+    v112 = v100;
+v97:;
+    u64 v113 = v65 & 28u;
+    v115 = v112;
+v114:;
+    at(u8x4_1, v81 + v115) = at(u8x4_1, (v27 + (i64)v64) + v115);
+    u64 v116 = v115 + 4;
+    if (!(v116 == v113)) { v115 = v116; goto v114; }
+    if (v113 == v65) { v173 = 0; v174 = 1; v175 = v81; v176 = v65; goto v34; }
+    v123 = v113;
+v90:;
+    v125 = v123;
+v124:;
+    at(u8, v81 + v125) = at(u8, (v27 + (i64)v64) + v125);
+    u64 v126 = v125 + 1;
+    if (v126 == v65) { v173 = 0; v174 = 1; v175 = v81; v176 = v65; goto v34; }
+    v125 = v126; goto v124;
 v88:;
-    v123 = v121;
-v122:;
-    at(u8, v79 + v123) = at(u8, (v25 + (i64)v62) + v123);
-    u64 v124 = v123 + 1;
-    if (v124 == v63) { v171 = 0; v172 = 1; v173 = v79; v174 = v63; goto v32; }
-    v123 = v124; goto v122;
-v86:;
-    memmove_any(v79, v25 + (i64)v62, v63);
-    v171 = 0; v172 = 1; v173 = v79; v174 = v63; goto v32;
-v67:;
-    u64_u64 v130 = sys_rattle_alloc(32u, 1);
-    if (!(v130._0 & 1)) goto v76;
-    u64 v134 = v130._1;
-    u8 *v135 = (u8 *)v134;
-    if (!((v134 - ((u64)(v25 + (i64)v62))) < 32u)) goto v140;
-    if ((v134 - (v26 + v62)) < 32u) v153 = 0; else { v146 = 0; goto v145; }
-v144:;
-    at(u8, v135 + v153) = at(u8, (v25 + (i64)v62) + v153);
-    u64 v154 = v153 + 1;
-    if (v154 == 32u) goto v152;
-    v153 = v154; goto v144;
-v145:;
-    at(u8x16_1, v135 + v146) = at(u8x16_1, (v25 + (i64)v62) + v146);
-    u64 v147 = v146 + 16u;
-    if (v147 == 32u) goto v152;
-    v146 = v147; goto v145;
-v140:;
-    memmove(v135, v25 + (i64)v62, 32u);
-v152:;
-    if ((v134 - ((u64)(u8 *)table_62a9c92b)) < 4) v163 = 0; else goto v162;
-v161:;
-    at(u8, v135 + v163) = at(u8, (u8 *)table_62a9c92b + v163);
-    u64 v164 = v163 + 1;
-    if (v164 == 4) { v171 = 0; v172 = 1; v173 = v135; v174 = 32u; goto v32; }
-    v163 = v164; goto v161;
-v162:;
-    at(u32_1, v135) = 768u;
-    v171 = 0; v172 = 1; v173 = v135; v174 = 32u; goto v32;
-v76:;
-    if ((v12 != 1) ? 1 : (v21 == 0)) goto v184;
-    sys_rattle_dealloc(v17);
-v184:;
-    at(u8, v0) = 1;
-    memset(v0 + 8, 0, 128u);
-    return;
-v34:;
-    u64 v35 = v36 + 1;
-    if (v35 == v30) { v171 = 1; v172 = 0; v173 = (u8 *)0; v174 = 0; } else { v36 = v35; goto v33; }
-v32:;
-    divided_tables_metrics_metrics_frame(v8, v1, 14u, 15u);
-    u8 v177 = at(u8, v8 + 8);
-    if (!(at(u8, v8) == 0)) goto v180;
-    u8 *v188 = at(ptr, v8 + 16);
-    u64 v190 = at(u64, v8 + 24);
-    u64 v192 = at(u64, v8 + 32);
-    memset(v4, 0, 80u);
-    memset(v5, 0, 32u);
-    divided_tables_variation_data_open_variations_b55d(v4, v1);
-    if (!(at(u8, v4) == 1)) goto v196;
-    u16 v199 = at(u16, v4 + 74);
-    u64 v200 = (u64)v199;
-    if (!(v199 == 0)) goto v203;
-    divided_tables_variation_data_with_data(v5, v4 + 8, v3, v200);
-    if (!(at(u8, v5) == 0)) goto v210;
-    v232 = v5 + 8; goto v230;
-v203:;
-    u64_u64 v206 = sys_rattle_alloc(v200 << 4, 8);
-    if (!(v206._0 & 1)) goto v210;
-    u8 *v212 = (u8 *)v206._1;
-    v214 = 0;
-v213:;
-    u64 v216 = v214 << 4;
-    at(ptr_1, v212 + v216) = (u8 *)table_d0e67785;
-    at(u64_1, v212 + v216 + 8) = 0;
-    u64 v215 = v214 + 1;
-    if (!(v215 == v200)) { v214 = v215; goto v213; }
-    divided_tables_variation_data_with_data(v5, v4 + 8, v212, v200);
-    if (!(at(u8, v5) == 0)) goto v228;
-    sys_rattle_dealloc(v212);
-    v232 = v5 + 8;
-v230:;
-    memcpy(v9, v232, 24u);
-    v245 = 1; goto v221;
-v228:;
-    sys_rattle_dealloc(v212);
-v210:;
-    memset(v9, 0, 24u);
-    memset(v6, 0, 24u);
-    if ((v177 != 1) ? 1 : (v192 == 0)) goto v264;
-    sys_rattle_dealloc(v188);
-v264:;
-    if (v171 | (v174 == 0)) goto v268;
-    sys_rattle_dealloc(v173);
-v268:;
-    if ((v12 != 1) ? 1 : (v21 == 0)) goto v273;
-    sys_rattle_dealloc(v17);
-v273:;
-    at(u8, v0) = 1;
-    at(u64_1, v0 + 8) = 0;
-    memcpy(v0 + 16, v6, 24u);
-    memset(v0 + 40, 0, 96u);
-    return;
-v196:;
-    memset(v9, 0, 24u);
-    v245 = 0;
-v221:;
-    at(u8, v0) = 0;
-    at(u64_1, v0 + 8) = v245;
-    memcpy(v0 + 16, v9, 24u);
-    at(u64_1, v0 + 40) = v22;
-    at(ptr_1, v0 + 48) = v17;
-    at(u64_1, v0 + 56) = v19;
-    at(u64_1, v0 + 64) = v21;
-    at(u64_1, v0 + 72) = v172;
-    at(ptr_1, v0 + 80) = v173;
-    at(u64_1, v0 + 88) = v174;
-    at(u64_1, v0 + 96) = v174;
-    at(u64_1, v0 + 104) = (u64)v177;
-    at(ptr_1, v0 + 112) = v188;
-    at(u64_1, v0 + 120) = v190;
-    at(u64_1, v0 + 128) = v192;
-    return;
-v180:;
-    memset(v6, 0, 24u);
-    if (v171 | (v174 == 0)) goto v235;
-    sys_rattle_dealloc(v173);
-v235:;
-    if ((v12 != 1) ? 1 : (v21 == 0)) goto v240;
-    sys_rattle_dealloc(v17);
-v240:;
-    at(u8, v0) = 1;
-    at(u64_1, v0 + 8) = 0;
-    memcpy(v0 + 16, v6, 24u);
-    memset(v0 + 40, 0, 96u);
-    return;
-v15:;
-    at(u8, v0) = 1;
-    memset(v0 + 8, 0, 128u);
-    return;
-}
-
-static void divided_tables_metrics_copy_kept(u8 *v0, u8 *v1, u64 v2, u8 *v3, u64 v4) {
-    u64 v25, v54, v65, v68, v76, v78, v97, v104, v117, v120, v127, v133, v151, v168, v188, v195, v208, v211, v134;
-    u8x16 v106, v197;
-    u64 v6 = (u64)v1;
-    u64 v7 = (u64)v0;
-    u16 v11 = at(u16, at(ptr, v3 + 8) + 64);
-    u64 v12 = (u64)v11;
-    u64 v14 = (v4 << 2) - 4;
-    if ((((u64)(v0 + (i64)v14)) - ((u64)(v1 + (i64)v14))) < 2) v25 = 0; else goto v22;
-v21:;
-    at(u8, (v0 + (i64)v14) + v25) = at(u8, (v1 + (i64)v14) + v25);
-    u64 v26 = v25 + 1;
-    if (v26 == 2) goto v24;
-    v25 = v26; goto v21;
-v22:;
-    at(u16_1, v0 + (i64)v14) = at(u16_1, v1 + (i64)v14);
-v24:;
-    u64 v32 = (v4 + v12) << 1;
-    u64 v33 = v2 - v32;
-    if (!((((u64)(v0 + (i64)v32)) - ((u64)(v1 + (i64)v32))) < v33)) goto v41;
-    if ((v33 < 4) | ((v7 - v6) < 32u)) { v76 = 0; goto v46; }
-    if (v33 < 16u) { v65 = 0; goto v49; }
-    u64 v51 = v33 & 12u;
-    u64 v52 = v33 & 0xfffffffffffffff0u;
-    v54 = 0;
-v53:;
-    at(u8x16_1, (v0 + (i64)v32) + v54) = at(u8x16_1, (v1 + (i64)v32) + v54);
-    u64 v55 = v54 + 16u;
-    if (!(v55 == v52)) { v54 = v55; goto v53; }
-    if (v33 == v52) goto v62;
-    if (v51 == 0) { v76 = v52; goto v46; }
-    v65 = v52;
-v49:;
-    u64 v66 = v33 & 0xfffffffffffffffcu;
-    v68 = v65;
-v67:;
-    at(u8x4_1, (v0 + (i64)v32) + v68) = at(u8x4_1, (v1 + (i64)v32) + v68);
-    u64 v69 = v68 + 4;
-    if (!(v69 == v66)) { v68 = v69; goto v67; }
-    if (v33 == v66) goto v62;
-    v76 = v66;
-v46:;
-    v78 = v76;
-v77:;
-    at(u8, (v0 + (i64)v32) + v78) = at(u8, (v1 + (i64)v32) + v78);
-    u64 v79 = v78 + 1;
-    if (v79 == v33) goto v62;
-    v78 = v79; goto v77;
-v41:;
-    memmove_any(v0 + (i64)v32, v1 + (i64)v32, v33);
-v62:;
-    u8 *v85 = at(ptr, v3 + 168);
-    u64 v87 = at(u64, v3 + 176);
-    if (v87 == 0) { v117 = 0; goto v89; }
-    if (at(u8, v85) & 1) { v127 = 0; goto v93; }
-    if (v87 < 64u) { v117 = 0; goto v89; }
-    v97 = 0;
-v96:;
-    if (v97 == 0xffffffffffffffc0u) goto v99;
-    v104 = 0; v106 = (u8x16){0};
-v103:;
-    u8x16 v107 = v106 | ((-(at(u8x16_1, (v85 + (i64)v97) + (i64)v104) & 1)));
-    u64 v105 = v104 + 16u;
-    if (!(v105 == 64u)) { v104 = v105; v106 = v107; goto v103; }
-    if (!(bits_u8x16(v107) == 0)) { v117 = v97; goto v89; }
-v99:;
-    u64 v98 = v97 + 64u;
-    if ((v87 - v98) < 64u) v117 = v98; else { v97 = v98; goto v96; }
-v89:;
-    if (v117 < v87) v120 = v117; else { v127 = v87; goto v93; }
-v119:;
-    if (at(u8, v85 + v120) & 1) { v127 = v120; goto v93; }
-    u64 v121 = v120 + 1;
-    if (v121 == v87) v127 = v87; else { v120 = v121; goto v119; }
-v93:;
-    u64 v128 = v4 - 1;
-    if (v11 > ((u16)v127)) v133 = v127; else return;
-v131:;
-    u64 v136 = v133 & 65535u;
-    if (!(v136 < v128)) goto v139;
-    u64 v140 = v136 << 2;
-    if ((((u64)(v0 + (i64)v140)) - ((u64)(v1 + (i64)v140))) < 4) v151 = 0; else goto v148;
+    memmove_any(v81, v27 + (i64)v64, v65);
+    v173 = 0; v174 = 1; v175 = v81; v176 = v65; goto v34;
+v69:;
+    u64_u64 v132 = sys_rattle_alloc(32u, 1);
+    if (!(v132._0 & 1)) goto v78;
+    u64 v136 = v132._1;
+    u8 *v137 = (u8 *)v136;
+    if (!((v136 - ((u64)(v27 + (i64)v64))) < 32u)) goto v142;
+    if ((v136 - (v28 + v64)) < 32u) v155 = 0; else { v148 = 0; goto v147; }
+v146:;
+    at(u8, v137 + v155) = at(u8, (v27 + (i64)v64) + v155);
+    u64 v156 = v155 + 1;
+    if (v156 == 32u) goto v154;
+    v155 = v156; goto v146;
 v147:;
-    at(u8, (v0 + (i64)v140) + v151) = at(u8, (v1 + (i64)v140) + v151);
-    u64 v152 = v151 + 1;
-    if (v152 == 4) goto v150;
-    v151 = v152; goto v147;
-v148:;
-    at(u32_1, v0 + (i64)v140) = at(u32_1, v1 + (i64)v140);
-    goto v150;
-v139:;
-    u64 v158 = (v136 + v4) << 1;
-    if ((((u64)(v0 + (i64)v158)) - ((u64)(v1 + (i64)v158))) < 2) v168 = 0; else goto v166;
-v165:;
-    at(u8, (v0 + (i64)v158) + v168) = at(u8, (v1 + (i64)v158) + v168);
-    u64 v169 = v168 + 1;
-    if (v169 == 2) goto v150;
-    v168 = v169; goto v165;
-v166:;
-    at(u16_1, v0 + (i64)v158) = at(u16_1, v1 + (i64)v158);
-v150:;
-    u64 v175 = (v133 + 1) & 65535u;
-    u8 *v176 = at(ptr, v3 + 168);
-    u64 v177 = at(u64, v3 + 176);
-    if (!(v177 > v175)) goto v180;
-    if (at(u8, v176 + v175) & 1) { v134 = v175; goto v135; }
-v180:;
-    if ((v177 - v175) < 64u) { v208 = v175; goto v186; }
-    v188 = v175;
-v187:;
-    if (!(v188 < 0xffffffffffffffc0u)) goto v190;
-    v195 = 0; v197 = (u8x16){0};
-v194:;
-    u8x16 v198 = v197 | ((-(at(u8x16_1, (v176 + (i64)v188) + (i64)v195) & 1)));
-    u64 v196 = v195 + 16u;
-    if (!(v196 == 64u)) { v195 = v196; v197 = v198; goto v194; }
-    if (!(bits_u8x16(v198) == 0)) { v208 = v188; goto v186; }
-v190:;
-    u64 v189 = v188 + 64u;
-    if ((v177 - v189) < 64u) v208 = v189; else { v188 = v189; goto v187; }
-v186:;
-    if (v208 < v177) v211 = v208; else { v134 = v177; goto v135; }
-v210:;
-    if (at(u8, v176 + v211) & 1) { v134 = v211; goto v135; }
-    u64 v212 = v211 + 1;
-    if (v212 == v177) v134 = v177; else { v211 = v212; goto v210; }
-v135:;
-    if (v11 > ((u16)v134)) { v133 = v134; goto v131; }
+    at(u8x16_1, v137 + v148) = at(u8x16_1, (v27 + (i64)v64) + v148);
+    u64 v149 = v148 + 16u;
+    if (v149 == 32u) goto v154;
+    v148 = v149; goto v147;
+v142:;
+    memmove(v137, v27 + (i64)v64, 32u);
+v154:;
+    if ((v136 - ((u64)(u8 *)table_62a9c92b)) < 4) v165 = 0; else goto v164;
+v163:;
+    at(u8, v137 + v165) = at(u8, (u8 *)table_62a9c92b + v165);
+    u64 v166 = v165 + 1;
+    if (v166 == 4) { v173 = 0; v174 = 1; v175 = v137; v176 = 32u; goto v34; }
+    v165 = v166; goto v163;
+v164:;
+    at(u32_1, v137) = 768u;
+    v173 = 0; v174 = 1; v175 = v137; v176 = 32u; goto v34;
+v78:;
+    if ((v14 != 1) ? 1 : (v20 == 0)) goto v192;
+    sys_rattle_dealloc(v16);
+v192:;
+    at(u8, v0) = 1;
+    memset(v0 + 8, 0, 128u);
+    return;
+v36:;
+    u64 v37 = v38 + 1;
+    if (v37 == v32) { v173 = 1; v174 = 0; v175 = (u8 *)0; v176 = 0; } else { v38 = v37; goto v35; }
+v34:;
+    memset(v7, 0, 40u);
+    divided_tables_metrics_metrics_frame(v7, v1, 14u, 15u);
+    u8 v179 = at(u8, v7 + 8);
+    u8 *v181 = at(ptr, v7 + 16);
+    u64 v183 = at(u64, v7 + 24);
+    u64 v185 = at(u64, v7 + 32);
+    if (!(at(u8, v7) == 0)) goto v188;
+    u8 v196 = at(u8, v10 + 72);
+    if (!(v196 == 0)) goto v199;
+    memset(v5, 0, 24u);
+    goto v200;
+v199:;
+    memset(v4, 0, 32u);
+    u16 v203 = at(u16, v10 + 146);
+    u64 v204 = (u64)v203;
+    if (!(v203 == 0)) goto v207;
+    divided_tables_glyph_variations_with_data(v4, v10 + 80, v3, v204);
+    goto v208;
+v207:;
+    u64_u64 v211 = sys_rattle_alloc(v204 << 4, 8);
+    if (!(v211._0 & 1)) goto v215;
+    u8 *v217 = (u8 *)v211._1;
+    v219 = 0;
+v218:;
+    u64 v221 = v219 << 4;
+    at(ptr_1, v217 + v221) = (u8 *)table_d0e67785;
+    at(u64_1, v217 + v221 + 8) = 0;
+    u64 v220 = v219 + 1;
+    if (!(v220 == v204)) { v219 = v220; goto v218; }
+    divided_tables_glyph_variations_with_data(v4, v10 + 80, v217, v204);
+    sys_rattle_dealloc(v217);
+v208:;
+    u8 v227 = at(u8, v4);
+    memcpy(v6 + 7, v4 + 8, 24u);
+    if (!(v227 == 0)) goto v226;
+    memcpy(v5, v6 + 7, 24u);
+v200:;
+    memcpy(v11, v5, 24u);
+    at(u8, v0) = 0;
+    at(u64_1, v0 + 8) = (u64)v196;
+    memcpy(v0 + 16, v11, 24u);
+    at(u64_1, v0 + 40) = v24;
+    at(ptr_1, v0 + 48) = v16;
+    at(u64_1, v0 + 56) = v18;
+    at(u64_1, v0 + 64) = v20;
+    at(u64_1, v0 + 72) = v174;
+    at(ptr_1, v0 + 80) = v175;
+    at(u64_1, v0 + 88) = v176;
+    at(u64_1, v0 + 96) = v176;
+    at(u64_1, v0 + 104) = (u64)v179;
+    at(ptr_1, v0 + 112) = v181;
+    at(u64_1, v0 + 120) = v183;
+    at(u64_1, v0 + 128) = v185;
+    return;
+v215:;
+v226:;
+    memset(v11, 0, 24u);
+    memset(v9, 0, 24u);
+    if ((v179 != 1) ? 1 : (v185 == 0)) goto v263;
+    sys_rattle_dealloc(v181);
+v263:;
+    if (v173 | (v176 == 0)) goto v267;
+    sys_rattle_dealloc(v175);
+v267:;
+    if ((v14 != 1) ? 1 : (v20 == 0)) goto v272;
+    sys_rattle_dealloc(v16);
+v272:;
+    at(u8, v0) = 1;
+    at(u64_1, v0 + 8) = 0;
+    memcpy(v0 + 16, v9, 24u);
+    memset(v0 + 40, 0, 96u);
+    return;
+v188:;
+    memset(v9, 0, 24u);
+    if (v173 | (v176 == 0)) goto v234;
+    sys_rattle_dealloc(v175);
+v234:;
+    if ((v14 != 1) ? 1 : (v20 == 0)) goto v239;
+    sys_rattle_dealloc(v16);
+v239:;
+    at(u8, v0) = 1;
+    at(u64_1, v0 + 8) = 0;
+    memcpy(v0 + 16, v9, 24u);
+    memset(v0 + 40, 0, 96u);
+    return;
+v23:;
+    at(u8, v0) = 1;
+    memset(v0 + 8, 0, 128u);
     return;
 }
 
-static void divided_tables_metrics_kept_metrics_6f24(u8 *v0, u8 *v1, u64 v2, u64 v3) {
-    u8 v5[1], *v61, *v63;
-    _Alignas(8) u8 v6[24], v7[24];
-    u64 v64;
+void divided_tables_all_tables_OpenTables_of_112b(u8 *v0, u8 *v1) {
+    _Alignas(8) u8 v3[24], v4[24], v5[24], v6[80], v7[24], v9[72], v11[72];
+    _Alignas(2) u8 v8[6], v10[6];
+    u64 v27, v58, v62, v108, v112, v143, v147, v192, v194, v195, v197, v224;
+    u8 *v57, *v142, *v193, *v196;
+    memset(v10, 0, 6);
+    memset(v11, 0, 72u);
+    u8 *v13 = at(ptr, v1 + 8);
+    u16 v15 = at(u16, v13 + 64);
+    u8 *v16 = at(ptr_2, v13);
+    u16 v18 = at(u16_1, v16 + 4);
+    u64 v20 = (u64)bswap16(v18);
+    if (!(v18 == 0)) { v27 = 0; goto v23; }
+    memset(v8, 0, 6);
+    v192 = 0; v193 = (u8 *)table_d0e67785; v194 = 0; v195 = 0; v196 = (u8 *)table_d0e67785; v197 = 0; goto v24;
+v23:;
+    u64 v30 = v27 << 4;
+    if (!((((at(u8, v16 + (i64)v30 + 12) == 104u) & (at(u8, v16 + (i64)v30 + 13) == 109u)) & (at(u8, v16 + (i64)v30 + 14) == 116u)) & (at(u8, v16 + (i64)v30 + 15) == 120u))) goto v25;
+    v57 = v16 + (i64)((u64)bswap32(at(u32_1, v16 + (i64)v30 + 20))); v58 = (u64)bswap32(at(u32_1, v16 + (i64)v30 + 24)); goto v29;
+v25:;
+    u64 v26 = v27 + 1;
+    if (v26 == v20) { v57 = (u8 *)table_d0e67785; v58 = 0; } else { v27 = v26; goto v23; }
+v29:;
+    v62 = 0;
+v59:;
+    u64 v65 = v62 << 4;
+    if (!((((at(u8, v16 + (i64)v65 + 12) == 104u) & (at(u8, v16 + (i64)v65 + 13) == 104u)) & (at(u8, v16 + (i64)v65 + 14) == 101u)) & (at(u8, v16 + (i64)v65 + 15) == 97u))) goto v60;
+    if (bswap32(at(u32_1, v16 + (i64)v65 + 24)) < 36u) { v108 = 0; goto v64; }
+    u16 v94 = at(u16_1, v16 + (i64)((u64)bswap32(at(u32_1, v16 + (i64)v65 + 20))) + 34);
+    u16 v96 = bswap16(v94);
+    if ((v94 == 0) | (v15 < v96)) { v108 = 0; goto v64; }
+    u64 v100 = (u64)v96;
+    v108 = (v58 < ((((u64)((u16)(v15 - v96))) << 1) + (v100 << 2))) ? 0 : v100; goto v64;
+v60:;
+    u64 v61 = v62 + 1;
+    if (v61 == v20) v108 = 0; else { v62 = v61; goto v59; }
+v64:;
+    memset(v8, 0, 6);
+    v112 = 0;
+v109:;
+    u64 v115 = v112 << 4;
+    if (!((((at(u8, v16 + (i64)v115 + 12) == 118u) & (at(u8, v16 + (i64)v115 + 13) == 109u)) & (at(u8, v16 + (i64)v115 + 14) == 116u)) & (at(u8, v16 + (i64)v115 + 15) == 120u))) goto v110;
+    v142 = v16 + (i64)((u64)bswap32(at(u32_1, v16 + (i64)v115 + 20))); v143 = (u64)bswap32(at(u32_1, v16 + (i64)v115 + 24)); goto v114;
+v110:;
+    u64 v111 = v112 + 1;
+    if (v111 == v20) { v142 = (u8 *)table_d0e67785; v143 = 0; } else { v112 = v111; goto v109; }
+v114:;
+    v147 = 0;
+v144:;
+    u64 v149 = v147 << 4;
+    if (!((((at(u8, v16 + (i64)v149 + 12) == 118u) & (at(u8, v16 + (i64)v149 + 13) == 104u)) & (at(u8, v16 + (i64)v149 + 14) == 101u)) & (at(u8, v16 + (i64)v149 + 15) == 97u))) goto v145;
+    if (bswap32(at(u32_1, v16 + (i64)v149 + 24)) < 36u) { v192 = v108; v193 = v57; v194 = v58; v195 = v143; v196 = v142; v197 = 0; goto v24; }
+    u16 v178 = at(u16_1, v16 + (i64)((u64)bswap32(at(u32_1, v16 + (i64)v149 + 20))) + 34);
+    u16 v180 = bswap16(v178);
+    if ((v178 == 0) | (v15 < v180)) { v192 = v108; v193 = v57; v194 = v58; v195 = v143; v196 = v142; v197 = 0; goto v24; }
+    u64 v184 = (u64)v180;
+    v192 = v108; v193 = v57; v194 = v58; v195 = v143; v196 = v142; v197 = (v143 < ((((u64)((u16)(v15 - v180))) << 1) + (v184 << 2))) ? 0 : v184; goto v24;
+v145:;
+    u64 v146 = v147 + 1;
+    if (v146 == v20) { v192 = v108; v193 = v57; v194 = v58; v195 = v143; v196 = v142; v197 = 0; } else { v147 = v146; goto v144; }
+v24:;
+    memset(v6, 0, 80u);
+    memset(v5, 0, 24u);
+    if (!(at(u8, v1 + 112) == 1)) goto v202;
+    u8 *v205 = at(ptr, v1 + 120);
+    font_subset_font_of_kind_FontOfKind_further_6e0a(v5, v205, 28u);
+    u8 *v208 = at(ptr, v5 + 8);
+    u64 v210 = at(u64, v5 + 16);
+    if (!(at(u8, v5) == 1)) goto v203;
+    memset(v3, 0, 24u);
+    font_subset_font_of_kind_FontOfKind_further_6e0a(v3, v205, 27u);
+    u8 v213 = at(u8, v3);
+    memcpy(v4 + 8, v3 + 8, 16u);
+    memcpy(v7 + 8, v4 + 8, 16u);
+    at(u64, v7) = (u64)v213;
+    font_variations_gvar_Variations_open(v6, v208, v210, v7, v15);
+    if (!(at(u8, v6) == 1)) goto v221;
+    memcpy(v9, v6 + 8, 72u);
+    v224 = 1; goto v222;
+v221:;
+    __builtin_trap();
+    __builtin_trap();
+v202:;
+v203:;
+    memset(v9, 0, 72u);
+    v224 = 0;
+v222:;
+    memcpy(v10, v8, 6);
+    memcpy(v11, v9, 72u);
+    at(ptr_1, v0) = v193;
+    at(u64_1, v0 + 8) = v194;
+    at(u64_1, v0 + 16) = v192;
+    at(u16_1, v0 + 24) = v15;
+    memcpy(v0 + 26, v10, 6);
+    at(ptr_1, v0 + 32) = v196;
+    at(u64_1, v0 + 40) = v195;
+    at(u64_1, v0 + 48) = v197;
+    at(u16_1, v0 + 56) = v15;
+    memset(v0 + 58, 0, 6);
+    at(u16_1, v0 + 64) = v15;
+    memset(v0 + 66, 0, 6);
+    at(u64_1, v0 + 72) = v224;
+    memcpy(v0 + 80, v11, 72u);
+    at(u16_1, v0 + 152) = v15;
+    memset(v0 + 154, 0, 6);
+    return;
+}
+
+void divided_tables_all_tables_OpenTables_of_ade9(u8 *v0, u8 *v1) {
+    _Alignas(8) u8 v3[24], v4[24], v5[80], v6[24], v8[72], v10[72];
+    _Alignas(2) u8 v7[6], v9[6];
+    u64 v25, v56, v73, v79, v125, v129, v158, v161, v176, v181, v226, v245, v261;
+    flag v54, v159;
+    u8 *v55, *v72, *v160, *v175, *v246;
+    memset(v9, 0, 6);
+    memset(v10, 0, 72u);
+    u8 *v12 = at(ptr, v1 + 8);
+    u16 v14 = at(u16, v12 + 64);
+    u8 *v15 = at(ptr_2, v12);
+    u16 v17 = at(u16_1, v15 + 4);
+    u64 v19 = (u64)bswap16(v17);
+    flag v20 = v17 == 0;
+    if (v20) { v54 = 0; v55 = (u8 *)0; v56 = 0; goto v21; }
+    v25 = 0;
+v22:;
+    u64 v27 = v25 << 4;
+    if (!((((at(u8, v15 + (i64)v27 + 12) == 104u) & (at(u8, v15 + (i64)v27 + 13) == 109u)) & (at(u8, v15 + (i64)v27 + 14) == 116u)) & (at(u8, v15 + (i64)v27 + 15) == 120u))) goto v23;
+    v54 = 1; v55 = v15 + (i64)((u64)bswap32(at(u32_1, v15 + (i64)v27 + 20))); v56 = (u64)bswap32(at(u32_1, v15 + (i64)v27 + 24)); goto v21;
+v23:;
+    u64 v24 = v25 + 1;
+    if (v24 == v19) { v54 = 0; v55 = (u8 *)0; v56 = 0; } else { v25 = v24; goto v22; }
+v21:;
+    flag v58 = at(u8, v1) == 0;
+    if (!v58) goto v60;
+    v72 = v54 ? v55 : (u8 *)table_d0e67785; v73 = v54 ? v56 : 0; goto v65;
+v60:;
+    if (!(at(u8, v1 + 672) == 1)) { v72 = (u8 *)table_d0e67785; v73 = 0; goto v65; }
+    v72 = at(ptr, v1 + 680); v73 = at(u64, v1 + 688);
+v65:;
+    if (!v20) { v79 = 0; goto v75; }
+    memset(v7, 0, 6);
+    v158 = 0; v159 = 0; v160 = (u8 *)0; v161 = 0; goto v76;
+v75:;
+    u64 v82 = v79 << 4;
+    if (!((((at(u8, v15 + (i64)v82 + 12) == 104u) & (at(u8, v15 + (i64)v82 + 13) == 104u)) & (at(u8, v15 + (i64)v82 + 14) == 101u)) & (at(u8, v15 + (i64)v82 + 15) == 97u))) goto v77;
+    if (bswap32(at(u32_1, v15 + (i64)v82 + 24)) < 36u) { v125 = 0; goto v81; }
+    u16 v111 = at(u16_1, v15 + (i64)((u64)bswap32(at(u32_1, v15 + (i64)v82 + 20))) + 34);
+    u16 v113 = bswap16(v111);
+    if ((v111 == 0) | (v14 < v113)) { v125 = 0; goto v81; }
+    u64 v117 = (u64)v113;
+    v125 = (v73 < ((((u64)((u16)(v14 - v113))) << 1) + (v117 << 2))) ? 0 : v117; goto v81;
+v77:;
+    u64 v78 = v79 + 1;
+    if (v78 == v19) v125 = 0; else { v79 = v78; goto v75; }
+v81:;
+    memset(v7, 0, 6);
+    v129 = 0;
+v126:;
+    u64 v131 = v129 << 4;
+    if (!((((at(u8, v15 + (i64)v131 + 12) == 118u) & (at(u8, v15 + (i64)v131 + 13) == 109u)) & (at(u8, v15 + (i64)v131 + 14) == 116u)) & (at(u8, v15 + (i64)v131 + 15) == 120u))) goto v127;
+    v158 = v125; v159 = 1; v160 = v15 + (i64)((u64)bswap32(at(u32_1, v15 + (i64)v131 + 20))); v161 = (u64)bswap32(at(u32_1, v15 + (i64)v131 + 24)); goto v76;
+v127:;
+    u64 v128 = v129 + 1;
+    if (v128 == v19) { v158 = v125; v159 = 0; v160 = (u8 *)0; v161 = 0; } else { v129 = v128; goto v126; }
+v76:;
+    if (!v58) goto v163;
+    v175 = v159 ? v160 : (u8 *)table_d0e67785; v176 = v159 ? v161 : 0; goto v168;
+v163:;
+    if (!(at(u8, v1 + 736) == 1)) { v175 = (u8 *)table_d0e67785; v176 = 0; goto v168; }
+    v175 = at(ptr, v1 + 744); v176 = at(u64, v1 + 752);
+v168:;
+    if (v20) { v226 = 0; goto v177; }
+    v181 = 0;
+v178:;
+    u64 v183 = v181 << 4;
+    if (!((((at(u8, v15 + (i64)v183 + 12) == 118u) & (at(u8, v15 + (i64)v183 + 13) == 104u)) & (at(u8, v15 + (i64)v183 + 14) == 101u)) & (at(u8, v15 + (i64)v183 + 15) == 97u))) goto v179;
+    if (bswap32(at(u32_1, v15 + (i64)v183 + 24)) < 36u) { v226 = 0; goto v177; }
+    u16 v212 = at(u16_1, v15 + (i64)((u64)bswap32(at(u32_1, v15 + (i64)v183 + 20))) + 34);
+    u16 v214 = bswap16(v212);
+    if ((v212 == 0) | (v14 < v214)) { v226 = 0; goto v177; }
+    u64 v218 = (u64)v214;
+    v226 = (v176 < ((((u64)((u16)(v14 - v214))) << 1) + (v218 << 2))) ? 0 : v218; goto v177;
+v179:;
+    u64 v180 = v181 + 1;
+    if (v180 == v19) v226 = 0; else { v181 = v180; goto v178; }
+v177:;
+    memset(v5, 0, 80u);
+    memset(v4, 0, 24u);
+    font_subset_font_of_kind_FontOfKind_further_6e0a(v4, v1, 28u);
+    u8 v227 = at(u8, v4);
+    u8 *v229 = at(ptr, v4 + 8);
+    u64 v231 = at(u64, v4 + 16);
+    if (!v58) goto v233;
+    if (v227 == 1) { v245 = v231; v246 = v229; goto v243; }
+    goto v238;
+v233:;
+    if (!(at(u8, v1 + 640) == 1)) goto v238;
+    v245 = at(u64, v1 + 656); v246 = at(ptr, v1 + 648);
+v243:;
+    memset(v3, 0, 24u);
+    font_subset_font_of_kind_FontOfKind_further_6e0a(v3, v1, 27u);
+    u8 *v249 = at(ptr, v3 + 8);
+    u64 v251 = at(u64, v3 + 16);
+    at(u64, v6) = (u64)at(u8, v3);
+    at(ptr, v6 + 8) = v249;
+    at(u64, v6 + 16) = v251;
+    font_variations_gvar_Variations_open(v5, v246, v245, v6, v14);
+    if (!(at(u8, v5) == 1)) goto v258;
+    memcpy(v8, v5 + 8, 72u);
+    v261 = 1; goto v259;
+v258:;
+    __builtin_trap();
+    __builtin_trap();
+v238:;
+    memset(v8, 0, 72u);
+    v261 = 0;
+v259:;
+    memcpy(v9, v7, 6);
+    memcpy(v10, v8, 72u);
+    at(ptr_1, v0) = v72;
+    at(u64_1, v0 + 8) = v73;
+    at(u64_1, v0 + 16) = v158;
+    at(u16_1, v0 + 24) = v14;
+    memcpy(v0 + 26, v9, 6);
+    at(ptr_1, v0 + 32) = v175;
+    at(u64_1, v0 + 40) = v176;
+    at(u64_1, v0 + 48) = v226;
+    at(u16_1, v0 + 56) = v14;
+    memset(v0 + 58, 0, 6);
+    at(u16_1, v0 + 64) = v14;
+    memset(v0 + 66, 0, 6);
+    at(u64_1, v0 + 72) = v261;
+    memcpy(v0 + 80, v10, 72u);
+    at(u16_1, v0 + 152) = v14;
+    memset(v0 + 154, 0, 6);
+    return;
+}
+
+void divided_tables_all_tables_OpenTables_open(u8 *v0, u8 *v1) {
+    _Alignas(8) u8 v3[24], v4[80], v5[24], v7[72];
+    _Alignas(2) u8 v6[6];
+    u64 v23, v54, v58, v104, v108, v139, v143, v189, v191, v192, v194, v209;
+    u8 *v53, *v138, *v190, *v193;
+    memset(v7, 0, 72u);
     u8 *v9 = at(ptr, v1 + 8);
     u16 v11 = at(u16, v9 + 64);
-    memset(v7, 0, 24u);
-    font_subset_accepted_copied(v7, v9, v3);
-    u8 v12 = at(u8, v7);
-    u64 v13 = (u64)v12;
-    u8 *v15 = at(ptr, v7 + 8);
-    u64 v17 = at(u64, v7 + 16);
-    if (v12 == 0) { v63 = (u8 *)0; v64 = 0; goto v19; }
-    memset(v6, 0, 24u);
-    font_subset_accepted_copied(v6, v9, v2);
-    u8 *v23 = at(ptr, v6 + 8);
-    if ((at(u8, v6) != 1) ? 1 : (at(u64, v6 + 16) < 36u)) goto v29;
-    u16 v32 = at(u16_1, v23 + 34);
-    u16 v34 = bswap16(v32);
-    if ((v32 == 0) | (v11 < v34)) goto v29;
-    u64 v38 = (u64)v34;
-    if (!(v17 < ((((u64)((u16)(v11 - v34))) << 1) + (v38 << 2)))) goto v45;
-v29:;
-    at(u8, v0) = 0;
-    memset(v0 + 8, 0, 32u);
-    return;
-v45:;
-    if (v17 == 0) { v61 = v5; goto v49; }
-    if (!((i64)v17 > (i64)0xffffffffffffffffu)) goto v53;
-    u64_u64 v55 = sys_rattle_alloc(v17, 1);
-    if (!(v55._0 & 1)) goto v53;
-    u8 *v60 = (u8 *)v55._1;
-    memset_any(v60, 0, v17);
-    v61 = v60;
-v49:;
-    divided_tables_metrics_copy_kept(v61, v15, v17, v1, v38);
-    v63 = v61; v64 = v17;
+    u8 *v12 = at(ptr_2, v9);
+    u16 v14 = at(u16_1, v12 + 4);
+    u64 v16 = (u64)bswap16(v14);
+    if (!(v14 == 0)) { v23 = 0; goto v19; }
+    memset(v6, 0, 6);
+    v189 = 0; v190 = (u8 *)table_d0e67785; v191 = 0; v192 = 0; v193 = (u8 *)table_d0e67785; v194 = 0; goto v20;
 v19:;
-    at(u8, v0) = 0;
-    at(u64_1, v0 + 8) = v13;
-    at(ptr_1, v0 + 16) = v63;
-    at(u64_1, v0 + 24) = v64;
-    at(u64_1, v0 + 32) = v64;
+    u64 v26 = v23 << 4;
+    if (!((((at(u8, v12 + (i64)v26 + 12) == 104u) & (at(u8, v12 + (i64)v26 + 13) == 109u)) & (at(u8, v12 + (i64)v26 + 14) == 116u)) & (at(u8, v12 + (i64)v26 + 15) == 120u))) goto v21;
+    v53 = v12 + (i64)((u64)bswap32(at(u32_1, v12 + (i64)v26 + 20))); v54 = (u64)bswap32(at(u32_1, v12 + (i64)v26 + 24)); goto v25;
+v21:;
+    u64 v22 = v23 + 1;
+    if (v22 == v16) { v53 = (u8 *)table_d0e67785; v54 = 0; } else { v23 = v22; goto v19; }
+v25:;
+    v58 = 0;
+v55:;
+    u64 v61 = v58 << 4;
+    if (!((((at(u8, v12 + (i64)v61 + 12) == 104u) & (at(u8, v12 + (i64)v61 + 13) == 104u)) & (at(u8, v12 + (i64)v61 + 14) == 101u)) & (at(u8, v12 + (i64)v61 + 15) == 97u))) goto v56;
+    if (bswap32(at(u32_1, v12 + (i64)v61 + 24)) < 36u) { v104 = 0; goto v60; }
+    u16 v90 = at(u16_1, v12 + (i64)((u64)bswap32(at(u32_1, v12 + (i64)v61 + 20))) + 34);
+    u16 v92 = bswap16(v90);
+    if ((v90 == 0) | (v11 < v92)) { v104 = 0; goto v60; }
+    u64 v96 = (u64)v92;
+    v104 = (v54 < ((((u64)((u16)(v11 - v92))) << 1) + (v96 << 2))) ? 0 : v96; goto v60;
+v56:;
+    u64 v57 = v58 + 1;
+    if (v57 == v16) v104 = 0; else { v58 = v57; goto v55; }
+v60:;
+    memset(v6, 0, 6);
+    v108 = 0;
+v105:;
+    u64 v111 = v108 << 4;
+    if (!((((at(u8, v12 + (i64)v111 + 12) == 118u) & (at(u8, v12 + (i64)v111 + 13) == 109u)) & (at(u8, v12 + (i64)v111 + 14) == 116u)) & (at(u8, v12 + (i64)v111 + 15) == 120u))) goto v106;
+    v138 = v12 + (i64)((u64)bswap32(at(u32_1, v12 + (i64)v111 + 20))); v139 = (u64)bswap32(at(u32_1, v12 + (i64)v111 + 24)); goto v110;
+v106:;
+    u64 v107 = v108 + 1;
+    if (v107 == v16) { v138 = (u8 *)table_d0e67785; v139 = 0; } else { v108 = v107; goto v105; }
+v110:;
+    v143 = 0;
+v140:;
+    u64 v145 = v143 << 4;
+    if (!((((at(u8, v12 + (i64)v145 + 12) == 118u) & (at(u8, v12 + (i64)v145 + 13) == 104u)) & (at(u8, v12 + (i64)v145 + 14) == 101u)) & (at(u8, v12 + (i64)v145 + 15) == 97u))) goto v141;
+    if (bswap32(at(u32_1, v12 + (i64)v145 + 24)) < 36u) { v189 = v104; v190 = v53; v191 = v54; v192 = v139; v193 = v138; v194 = 0; goto v20; }
+    u16 v174 = at(u16_1, v12 + (i64)((u64)bswap32(at(u32_1, v12 + (i64)v145 + 20))) + 34);
+    u16 v176 = bswap16(v174);
+    if ((v174 == 0) | (v11 < v176)) { v189 = v104; v190 = v53; v191 = v54; v192 = v139; v193 = v138; v194 = 0; goto v20; }
+    u64 v180 = (u64)v176;
+    v189 = v104; v190 = v53; v191 = v54; v192 = v139; v193 = v138; v194 = (v139 < ((((u64)((u16)(v11 - v176))) << 1) + (v180 << 2))) ? 0 : v180; goto v20;
+v141:;
+    u64 v142 = v143 + 1;
+    if (v142 == v16) { v189 = v104; v190 = v53; v191 = v54; v192 = v139; v193 = v138; v194 = 0; } else { v143 = v142; goto v140; }
+v20:;
+    memset(v3, 0, 24u);
+    memset(v4, 0, 80u);
+    memset(v5, 0, 24u);
+    font_subset_further_tables_FurtherTablesTablesBySlot_table_1234(v3, v1, 28u);
+    if (!(at(u8, v3) == 1)) goto v198;
+    u8 *v200 = at(ptr, v3 + 8);
+    u64 v202 = at(u64, v3 + 16);
+    font_subset_further_tables_FurtherTablesTablesBySlot_table_1234(v5, v1, 27u);
+    font_variations_gvar_Variations_open(v4, v200, v202, v5, v11);
+    if (!(at(u8, v4) == 1)) goto v206;
+    memcpy(v7, v4 + 8, 72u);
+    v209 = 1; goto v207;
+v206:;
+    memset(v0, 0, 168u);
     return;
-v53:;
-    at(u8, v0) = 1;
-    memset(v0 + 8, 0, 32u);
+v198:;
+    memset(v7, 0, 72u);
+    v209 = 0;
+v207:;
+    at(u64_1, v0) = 1;
+    at(ptr_1, v0 + 8) = v190;
+    at(u64_1, v0 + 16) = v191;
+    at(u64_1, v0 + 24) = v189;
+    at(u16_1, v0 + 32) = v11;
+    memcpy(v0 + 34, v6, 6);
+    at(ptr_1, v0 + 40) = v193;
+    at(u64_1, v0 + 48) = v192;
+    at(u64_1, v0 + 56) = v194;
+    at(u16_1, v0 + 64) = v11;
+    memset(v0 + 66, 0, 6);
+    at(u16_1, v0 + 72) = v11;
+    memset(v0 + 74, 0, 6);
+    at(u64_1, v0 + 80) = v209;
+    memcpy(v0 + 88, v7, 72u);
+    at(u16_1, v0 + 160) = v11;
+    memset(v0 + 162, 0, 6);
     return;
 }
 
-NOINLINE void divided_tables_metrics_lay_over(u8 *v0, u64 v1, u8 *v2, u64 v3) {
+NOINLINE void divided_tables_all_tables_lay_over(u8 *v0, u64 v1, u8 *v2, u64 v3) {
     u64 v24, v36, v39, v49, v51;
     u64 v5 = umin64(v3, v1);
     if (v5 == 0) return;
@@ -475,205 +629,7 @@ v50:;
     v51 = v52; goto v50;
 }
 
-static void divided_tables_metrics_metrics_frame(u8 *v0, u8 *v1, u64 v2, u64 v3) {
-    u8 v5[1], *v63, *v121, *v196;
-    _Alignas(8) u8 v6[24], v7[24];
-    u64 v83, v93, v96, v104, v106, v135, v164, v174, v177, v185, v187, v195;
-    u8 *v9 = at(ptr, v1 + 8);
-    u16 v11 = at(u16, v9 + 64);
-    memset(v7, 0, 24u);
-    font_subset_accepted_copied(v7, v9, v3);
-    u8 v12 = at(u8, v7);
-    u8 *v14 = at(ptr, v7 + 8);
-    u64 v15 = (u64)v14;
-    u64 v17 = at(u64, v7 + 16);
-    u64 v18 = (u64)v12;
-    if (v12 == 0) { v195 = 0; v196 = (u8 *)0; goto v20; }
-    memset(v6, 0, 24u);
-    font_subset_accepted_copied(v6, v9, v2);
-    u8 *v24 = at(ptr, v6 + 8);
-    if ((at(u8, v6) != 1) ? 1 : (at(u64, v6 + 16) < 36u)) goto v30;
-    u16 v33 = at(u16_1, v24 + 34);
-    u16 v35 = bswap16(v33);
-    if ((v33 == 0) | (v11 < v35)) goto v30;
-    u64 v39 = (u64)v35;
-    u64 v40 = v39 << 2;
-    if (!(v17 < ((((u64)((u16)(v11 - v35))) << 1) + v40))) goto v46;
-v30:;
-    if (v17 == 0) { v63 = v5; goto v48; }
-    if (!((i64)v17 > (i64)0xffffffffffffffffu)) goto v55;
-    u64_u64 v57 = sys_rattle_alloc(v17, 1);
-    if (!(v57._0 & 1)) goto v55;
-    v63 = (u8 *)v57._1;
-v48:;
-    if (!((((u64)v63) - ((u64)v14)) < v17)) goto v69;
-    if ((v17 < 4) ? 1 : ((((u64)v63) - v15) < 32u)) { v104 = 0; goto v75; }
-    if (v17 < 16u) { v93 = 0; goto v78; }
-    u64 v80 = v17 & 12u;
-    u64 v81 = v17 & 0xfffffffffffffff0u;
-    v83 = 0;
-v82:;
-    at(u8x16_1, v63 + v83) = at(u8x16_1, v14 + v83);
-    u64 v84 = v83 + 16u;
-    if (!(v84 == v81)) { v83 = v84; goto v82; }
-    if (v17 == v81) { v195 = v17; v196 = v63; goto v20; }
-    if (v80 == 0) { v104 = v81; goto v75; }
-    v93 = v81;
-v78:;
-    u64 v94 = v17 & 0xfffffffffffffffcu;
-    v96 = v93;
-v95:;
-    at(u8x4_1, v63 + v96) = at(u8x4_1, v14 + v96);
-    u64 v97 = v96 + 4;
-    if (!(v97 == v94)) { v96 = v97; goto v95; }
-    if (v17 == v94) { v195 = v17; v196 = v63; goto v20; }
-    v104 = v94;
-v75:;
-    v106 = v104;
-v105:;
-    at(u8, v63 + v106) = at(u8, v14 + v106);
-    u64 v107 = v106 + 1;
-    if (v107 == v17) { v195 = v17; v196 = v63; goto v20; }
-    v106 = v107; goto v105;
-v69:;
-    memmove_any(v63, v14, v17);
-    v195 = v17; v196 = v63; goto v20;
-v46:;
-    if (v17 == 0) { v121 = v5; goto v51; }
-    if (!((i64)v17 > (i64)0xffffffffffffffffu)) goto v55;
-    u64_u64 v115 = sys_rattle_alloc(v17, 1);
-    if (!(v115._0 & 1)) goto v55;
-    u8 *v120 = (u8 *)v115._1;
-    memset_any(v120, 0, v17);
-    v121 = v120;
-v51:;
-    u64 v122 = (u64)v121;
-    u64 v123 = (u64)v11;
-    u64 v124 = v40 - 4;
-    if ((((u64)(v121 + (i64)v124)) - ((u64)(v14 + (i64)v124))) < 2) v135 = 0; else goto v132;
-v131:;
-    at(u8, (v121 + (i64)v124) + v135) = at(u8, (v14 + (i64)v124) + v135);
-    u64 v136 = v135 + 1;
-    if (v136 == 2) goto v134;
-    v135 = v136; goto v131;
-v132:;
-    at(u16_1, v121 + (i64)v124) = at(u16_1, v14 + (i64)v124);
-v134:;
-    u64 v142 = (v39 + v123) << 1;
-    u64 v143 = v17 - v142;
-    if (!((((u64)(v121 + (i64)v142)) - ((u64)(v14 + (i64)v142))) < v143)) goto v151;
-    if ((v143 < 4) ? 1 : ((v122 - v15) < 32u)) { v185 = 0; goto v156; }
-    if (v143 < 16u) { v174 = 0; goto v159; }
-    u64 v161 = v143 & 12u;
-    u64 v162 = v143 & 0xfffffffffffffff0u;
-    v164 = 0;
-v163:;
-    at(u8x16_1, (v121 + (i64)v142) + v164) = at(u8x16_1, (v14 + (i64)v142) + v164);
-    u64 v165 = v164 + 16u;
-    if (!(v165 == v162)) { v164 = v165; goto v163; }
-    if (v143 == v162) { v195 = v17; v196 = v121; goto v20; }
-    if (v161 == 0) { v185 = v162; goto v156; }
-    v174 = v162;
-v159:;
-    u64 v175 = v143 & 0xfffffffffffffffcu;
-    v177 = v174;
-v176:;
-    at(u8x4_1, (v121 + (i64)v142) + v177) = at(u8x4_1, (v14 + (i64)v142) + v177);
-    u64 v178 = v177 + 4;
-    if (!(v178 == v175)) { v177 = v178; goto v176; }
-    if (v143 == v175) { v195 = v17; v196 = v121; goto v20; }
-    v185 = v175;
-v156:;
-    v187 = v185;
-v186:;
-    at(u8, (v121 + (i64)v142) + v187) = at(u8, (v14 + (i64)v142) + v187);
-    u64 v188 = v187 + 1;
-    if (v188 == v143) { v195 = v17; v196 = v121; goto v20; }
-    v187 = v188; goto v186;
-v151:;
-    memmove_any(v121 + (i64)v142, v14 + (i64)v142, v143);
-    v195 = v17; v196 = v121;
-v20:;
-    at(u8, v0) = 0;
-    at(u64_1, v0 + 8) = v18;
-    at(ptr_1, v0 + 16) = v196;
-    at(u64_1, v0 + 24) = v195;
-    at(u64_1, v0 + 32) = v195;
-    return;
-v55:;
-    at(u8, v0) = 1;
-    memset(v0 + 8, 0, 32u);
-    return;
-}
-
-void divided_tables_variation_data_open_variations_5cea(u8 *v0, u8 *v1) {
-    _Alignas(8) u8 v3[24], v4[24], v5[80], v6[24];
-    u64 v27;
-    u8 *v28;
-    memset(v5, 0, 80u);
-    memset(v4, 0, 24u);
-    font_subset_font_of_kind_FontOfKind_further_6e0a(v4, v1, 28u);
-    u8 v7 = at(u8, v4);
-    u8 *v9 = at(ptr, v4 + 8);
-    u64 v11 = at(u64, v4 + 16);
-    if (!(at(u8, v1) == 0)) goto v15;
-    if (v7 == 1) { v27 = v11; v28 = v9; goto v25; }
-    goto v20;
-v15:;
-    if (!(at(u8, v1 + 560) == 1)) goto v20;
-    v27 = at(u64, v1 + 576); v28 = at(ptr, v1 + 568);
-v25:;
-    memset(v3, 0, 24u);
-    font_subset_font_of_kind_FontOfKind_further_6e0a(v3, v1, 27u);
-    u8 *v31 = at(ptr, v3 + 8);
-    u64 v33 = at(u64, v3 + 16);
-    at(u64, v6) = (u64)at(u8, v3);
-    at(ptr, v6 + 8) = v31;
-    at(u64, v6 + 16) = v33;
-    font_variations_gvar_Variations_open(v5, v28, v27, v6, at(u16, at(ptr, v1 + 8) + 64));
-    if (!(at(u8, v5) == 0)) goto v44;
-    at(u64_1, v0) = 1;
-    memcpy(v0 + 8, v5 + 8, 72u);
-    return;
-v44:;
-    __builtin_trap();
-    __builtin_trap();
-v20:;
-    memset(v0, 0, 80u);
-    return;
-}
-
-void divided_tables_variation_data_open_variations_b55d(u8 *v0, u8 *v1) {
-    _Alignas(8) u8 v3[24], v4[24], v5[24], v6[80], v7[24];
-    memset(v6, 0, 80u);
-    memset(v5, 0, 24u);
-    if (!(at(u8, v1 + 112) == 1)) goto v12;
-    u8 *v15 = at(ptr, v1 + 120);
-    font_subset_font_of_kind_FontOfKind_further_6e0a(v5, v15, 28u);
-    u8 *v18 = at(ptr, v5 + 8);
-    u64 v20 = at(u64, v5 + 16);
-    if (!(at(u8, v5) == 1)) goto v13;
-    memset(v3, 0, 24u);
-    font_subset_font_of_kind_FontOfKind_further_6e0a(v3, v15, 27u);
-    u8 v23 = at(u8, v3);
-    memcpy(v4 + 8, v3 + 8, 16u);
-    memcpy(v7 + 8, v4 + 8, 16u);
-    at(u64, v7) = (u64)v23;
-    font_variations_gvar_Variations_open(v6, v18, v20, v7, at(u16, at(ptr, v1 + 8) + 64));
-    if (!(at(u8, v6) == 0)) goto v35;
-    at(u64_1, v0) = 1;
-    memcpy(v0 + 8, v6 + 8, 72u);
-    return;
-v35:;
-    __builtin_trap();
-    __builtin_trap();
-v12:;
-v13:;
-    memset(v0, 0, 80u);
-    return;
-}
-
-void divided_tables_variation_data_with_data(u8 *v0, u8 *v1, u8 *v2, u64 v3) {
+void divided_tables_glyph_variations_with_data(u8 *v0, u8 *v1, u8 *v2, u64 v3) {
     u8 v5[1], v7[31], v8[31], *v87, *v88, *v95, *v99, *v100, *v129, *v144, *v158, *v219;
     _Alignas(8) u8 v6[24];
     u64 v26, v44, v45, v47, v49, v56, v101, v102, v113, v130, v131, v145, v146, v159, v160, v172, v173, v179, v182, v186, v183, v197, v208, v209, v223, v224, v237, v238, v262, v273, v276, v284, v286, v301, v304, v306, v305, v323, v346, v356, v359, v367, v369;
@@ -929,6 +885,318 @@ v69:;
     return;
 }
 
+static void divided_tables_metrics_copy_kept(u8 *v0, u8 *v1, u64 v2, u8 *v3, u64 v4) {
+    u64 v25, v54, v65, v68, v76, v78, v97, v104, v117, v120, v127, v133, v151, v168, v188, v195, v208, v211, v134;
+    u8x16 v106, v197;
+    u64 v6 = (u64)v1;
+    u64 v7 = (u64)v0;
+    u16 v11 = at(u16, at(ptr, v3 + 8) + 64);
+    u64 v12 = (u64)v11;
+    u64 v14 = (v4 << 2) - 4;
+    if ((((u64)(v0 + (i64)v14)) - ((u64)(v1 + (i64)v14))) < 2) v25 = 0; else goto v22;
+v21:;
+    at(u8, (v0 + (i64)v14) + v25) = at(u8, (v1 + (i64)v14) + v25);
+    u64 v26 = v25 + 1;
+    if (v26 == 2) goto v24;
+    v25 = v26; goto v21;
+v22:;
+    at(u16_1, v0 + (i64)v14) = at(u16_1, v1 + (i64)v14);
+v24:;
+    u64 v32 = (v4 + v12) << 1;
+    u64 v33 = v2 - v32;
+    if (!((((u64)(v0 + (i64)v32)) - ((u64)(v1 + (i64)v32))) < v33)) goto v41;
+    if ((v33 < 4) | ((v7 - v6) < 32u)) { v76 = 0; goto v46; }
+    if (v33 < 16u) { v65 = 0; goto v49; }
+    u64 v51 = v33 & 12u;
+    u64 v52 = v33 & 0xfffffffffffffff0u;
+    v54 = 0;
+v53:;
+    at(u8x16_1, (v0 + (i64)v32) + v54) = at(u8x16_1, (v1 + (i64)v32) + v54);
+    u64 v55 = v54 + 16u;
+    if (!(v55 == v52)) { v54 = v55; goto v53; }
+    if (v33 == v52) goto v62;
+    if (v51 == 0) { v76 = v52; goto v46; }
+    v65 = v52;
+v49:;
+    u64 v66 = v33 & 0xfffffffffffffffcu;
+    v68 = v65;
+v67:;
+    at(u8x4_1, (v0 + (i64)v32) + v68) = at(u8x4_1, (v1 + (i64)v32) + v68);
+    u64 v69 = v68 + 4;
+    if (!(v69 == v66)) { v68 = v69; goto v67; }
+    if (v33 == v66) goto v62;
+    v76 = v66;
+v46:;
+    v78 = v76;
+v77:;
+    at(u8, (v0 + (i64)v32) + v78) = at(u8, (v1 + (i64)v32) + v78);
+    u64 v79 = v78 + 1;
+    if (v79 == v33) goto v62;
+    v78 = v79; goto v77;
+v41:;
+    memmove_any(v0 + (i64)v32, v1 + (i64)v32, v33);
+v62:;
+    u8 *v85 = at(ptr, v3 + 168);
+    u64 v87 = at(u64, v3 + 176);
+    if (v87 == 0) { v117 = 0; goto v89; }
+    if (at(u8, v85) & 1) { v127 = 0; goto v93; }
+    if (v87 < 64u) { v117 = 0; goto v89; }
+    v97 = 0;
+v96:;
+    if (v97 == 0xffffffffffffffc0u) goto v99;
+    v104 = 0; v106 = (u8x16){0};
+v103:;
+    u8x16 v107 = v106 | ((-(at(u8x16_1, (v85 + (i64)v97) + (i64)v104) & 1)));
+    u64 v105 = v104 + 16u;
+    if (!(v105 == 64u)) { v104 = v105; v106 = v107; goto v103; }
+    if (!(bits_u8x16(v107) == 0)) { v117 = v97; goto v89; }
+v99:;
+    u64 v98 = v97 + 64u;
+    if ((v87 - v98) < 64u) v117 = v98; else { v97 = v98; goto v96; }
+v89:;
+    if (v117 < v87) v120 = v117; else { v127 = v87; goto v93; }
+v119:;
+    if (at(u8, v85 + v120) & 1) { v127 = v120; goto v93; }
+    u64 v121 = v120 + 1;
+    if (v121 == v87) v127 = v87; else { v120 = v121; goto v119; }
+v93:;
+    u64 v128 = v4 - 1;
+    if (v11 > ((u16)v127)) v133 = v127; else return;
+v131:;
+    u64 v136 = v133 & 65535u;
+    if (!(v136 < v128)) goto v139;
+    u64 v140 = v136 << 2;
+    if ((((u64)(v0 + (i64)v140)) - ((u64)(v1 + (i64)v140))) < 4) v151 = 0; else goto v148;
+v147:;
+    at(u8, (v0 + (i64)v140) + v151) = at(u8, (v1 + (i64)v140) + v151);
+    u64 v152 = v151 + 1;
+    if (v152 == 4) goto v150;
+    v151 = v152; goto v147;
+v148:;
+    at(u32_1, v0 + (i64)v140) = at(u32_1, v1 + (i64)v140);
+    goto v150;
+v139:;
+    u64 v158 = (v136 + v4) << 1;
+    if ((((u64)(v0 + (i64)v158)) - ((u64)(v1 + (i64)v158))) < 2) v168 = 0; else goto v166;
+v165:;
+    at(u8, (v0 + (i64)v158) + v168) = at(u8, (v1 + (i64)v158) + v168);
+    u64 v169 = v168 + 1;
+    if (v169 == 2) goto v150;
+    v168 = v169; goto v165;
+v166:;
+    at(u16_1, v0 + (i64)v158) = at(u16_1, v1 + (i64)v158);
+v150:;
+    u64 v175 = (v133 + 1) & 65535u;
+    u8 *v176 = at(ptr, v3 + 168);
+    u64 v177 = at(u64, v3 + 176);
+    if (!(v177 > v175)) goto v180;
+    if (at(u8, v176 + v175) & 1) { v134 = v175; goto v135; }
+v180:;
+    if ((v177 - v175) < 64u) { v208 = v175; goto v186; }
+    v188 = v175;
+v187:;
+    if (!(v188 < 0xffffffffffffffc0u)) goto v190;
+    v195 = 0; v197 = (u8x16){0};
+v194:;
+    u8x16 v198 = v197 | ((-(at(u8x16_1, (v176 + (i64)v188) + (i64)v195) & 1)));
+    u64 v196 = v195 + 16u;
+    if (!(v196 == 64u)) { v195 = v196; v197 = v198; goto v194; }
+    if (!(bits_u8x16(v198) == 0)) { v208 = v188; goto v186; }
+v190:;
+    u64 v189 = v188 + 64u;
+    if ((v177 - v189) < 64u) v208 = v189; else { v188 = v189; goto v187; }
+v186:;
+    if (v208 < v177) v211 = v208; else { v134 = v177; goto v135; }
+v210:;
+    if (at(u8, v176 + v211) & 1) { v134 = v211; goto v135; }
+    u64 v212 = v211 + 1;
+    if (v212 == v177) v134 = v177; else { v211 = v212; goto v210; }
+v135:;
+    if (v11 > ((u16)v134)) { v133 = v134; goto v131; }
+    return;
+}
+
+static void divided_tables_metrics_kept_metrics_6f24(u8 *v0, u8 *v1, u64 v2, u64 v3) {
+    u8 v5[1], *v61, *v63;
+    _Alignas(8) u8 v6[24], v7[24];
+    u64 v64;
+    u8 *v9 = at(ptr, v1 + 8);
+    u16 v11 = at(u16, v9 + 64);
+    memset(v7, 0, 24u);
+    font_subset_accepted_copied(v7, v9, v3);
+    u8 v12 = at(u8, v7);
+    u64 v13 = (u64)v12;
+    u8 *v15 = at(ptr, v7 + 8);
+    u64 v17 = at(u64, v7 + 16);
+    if (v12 == 0) { v63 = (u8 *)0; v64 = 0; goto v19; }
+    memset(v6, 0, 24u);
+    font_subset_accepted_copied(v6, v9, v2);
+    u8 *v23 = at(ptr, v6 + 8);
+    if ((at(u8, v6) != 1) ? 1 : (at(u64, v6 + 16) < 36u)) goto v29;
+    u16 v32 = at(u16_1, v23 + 34);
+    u16 v34 = bswap16(v32);
+    if ((v32 == 0) | (v11 < v34)) goto v29;
+    u64 v38 = (u64)v34;
+    if (!(v17 < ((((u64)((u16)(v11 - v34))) << 1) + (v38 << 2)))) goto v45;
+v29:;
+    at(u8, v0) = 0;
+    memset(v0 + 8, 0, 32u);
+    return;
+v45:;
+    if (v17 == 0) { v61 = v5; goto v49; }
+    if (!((i64)v17 > (i64)0xffffffffffffffffu)) goto v53;
+    u64_u64 v55 = sys_rattle_alloc(v17, 1);
+    if (!(v55._0 & 1)) goto v53;
+    u8 *v60 = (u8 *)v55._1;
+    memset_any(v60, 0, v17);
+    v61 = v60;
+v49:;
+    divided_tables_metrics_copy_kept(v61, v15, v17, v1, v38);
+    v63 = v61; v64 = v17;
+v19:;
+    at(u8, v0) = 0;
+    at(u64_1, v0 + 8) = v13;
+    at(ptr_1, v0 + 16) = v63;
+    at(u64_1, v0 + 24) = v64;
+    at(u64_1, v0 + 32) = v64;
+    return;
+v53:;
+    at(u8, v0) = 1;
+    memset(v0 + 8, 0, 32u);
+    return;
+}
+
+static void divided_tables_metrics_metrics_frame(u8 *v0, u8 *v1, u64 v2, u64 v3) {
+    u8 v5[1], *v63, *v121, *v196;
+    _Alignas(8) u8 v6[24], v7[24];
+    u64 v83, v93, v96, v104, v106, v135, v164, v174, v177, v185, v187, v195;
+    u8 *v9 = at(ptr, v1 + 8);
+    u16 v11 = at(u16, v9 + 64);
+    memset(v7, 0, 24u);
+    font_subset_accepted_copied(v7, v9, v3);
+    u8 v12 = at(u8, v7);
+    u8 *v14 = at(ptr, v7 + 8);
+    u64 v15 = (u64)v14;
+    u64 v17 = at(u64, v7 + 16);
+    u64 v18 = (u64)v12;
+    if (v12 == 0) { v195 = 0; v196 = (u8 *)0; goto v20; }
+    memset(v6, 0, 24u);
+    font_subset_accepted_copied(v6, v9, v2);
+    u8 *v24 = at(ptr, v6 + 8);
+    if ((at(u8, v6) != 1) ? 1 : (at(u64, v6 + 16) < 36u)) goto v30;
+    u16 v33 = at(u16_1, v24 + 34);
+    u16 v35 = bswap16(v33);
+    if ((v33 == 0) | (v11 < v35)) goto v30;
+    u64 v39 = (u64)v35;
+    u64 v40 = v39 << 2;
+    if (!(v17 < ((((u64)((u16)(v11 - v35))) << 1) + v40))) goto v46;
+v30:;
+    if (v17 == 0) { v63 = v5; goto v48; }
+    if (!((i64)v17 > (i64)0xffffffffffffffffu)) goto v55;
+    u64_u64 v57 = sys_rattle_alloc(v17, 1);
+    if (!(v57._0 & 1)) goto v55;
+    v63 = (u8 *)v57._1;
+v48:;
+    if (!((((u64)v63) - ((u64)v14)) < v17)) goto v69;
+    if ((v17 < 4) ? 1 : ((((u64)v63) - v15) < 32u)) { v104 = 0; goto v75; }
+    if (v17 < 16u) { v93 = 0; goto v78; }
+    u64 v80 = v17 & 12u;
+    u64 v81 = v17 & 0xfffffffffffffff0u;
+    v83 = 0;
+v82:;
+    at(u8x16_1, v63 + v83) = at(u8x16_1, v14 + v83);
+    u64 v84 = v83 + 16u;
+    if (!(v84 == v81)) { v83 = v84; goto v82; }
+    if (v17 == v81) { v195 = v17; v196 = v63; goto v20; }
+    if (v80 == 0) { v104 = v81; goto v75; }
+    v93 = v81;
+v78:;
+    u64 v94 = v17 & 0xfffffffffffffffcu;
+    v96 = v93;
+v95:;
+    at(u8x4_1, v63 + v96) = at(u8x4_1, v14 + v96);
+    u64 v97 = v96 + 4;
+    if (!(v97 == v94)) { v96 = v97; goto v95; }
+    if (v17 == v94) { v195 = v17; v196 = v63; goto v20; }
+    v104 = v94;
+v75:;
+    v106 = v104;
+v105:;
+    at(u8, v63 + v106) = at(u8, v14 + v106);
+    u64 v107 = v106 + 1;
+    if (v107 == v17) { v195 = v17; v196 = v63; goto v20; }
+    v106 = v107; goto v105;
+v69:;
+    memmove_any(v63, v14, v17);
+    v195 = v17; v196 = v63; goto v20;
+v46:;
+    if (v17 == 0) { v121 = v5; goto v51; }
+    if (!((i64)v17 > (i64)0xffffffffffffffffu)) goto v55;
+    u64_u64 v115 = sys_rattle_alloc(v17, 1);
+    if (!(v115._0 & 1)) goto v55;
+    u8 *v120 = (u8 *)v115._1;
+    memset_any(v120, 0, v17);
+    v121 = v120;
+v51:;
+    u64 v122 = (u64)v121;
+    u64 v123 = (u64)v11;
+    u64 v124 = v40 - 4;
+    if ((((u64)(v121 + (i64)v124)) - ((u64)(v14 + (i64)v124))) < 2) v135 = 0; else goto v132;
+v131:;
+    at(u8, (v121 + (i64)v124) + v135) = at(u8, (v14 + (i64)v124) + v135);
+    u64 v136 = v135 + 1;
+    if (v136 == 2) goto v134;
+    v135 = v136; goto v131;
+v132:;
+    at(u16_1, v121 + (i64)v124) = at(u16_1, v14 + (i64)v124);
+v134:;
+    u64 v142 = (v39 + v123) << 1;
+    u64 v143 = v17 - v142;
+    if (!((((u64)(v121 + (i64)v142)) - ((u64)(v14 + (i64)v142))) < v143)) goto v151;
+    if ((v143 < 4) ? 1 : ((v122 - v15) < 32u)) { v185 = 0; goto v156; }
+    if (v143 < 16u) { v174 = 0; goto v159; }
+    u64 v161 = v143 & 12u;
+    u64 v162 = v143 & 0xfffffffffffffff0u;
+    v164 = 0;
+v163:;
+    at(u8x16_1, (v121 + (i64)v142) + v164) = at(u8x16_1, (v14 + (i64)v142) + v164);
+    u64 v165 = v164 + 16u;
+    if (!(v165 == v162)) { v164 = v165; goto v163; }
+    if (v143 == v162) { v195 = v17; v196 = v121; goto v20; }
+    if (v161 == 0) { v185 = v162; goto v156; }
+    v174 = v162;
+v159:;
+    u64 v175 = v143 & 0xfffffffffffffffcu;
+    v177 = v174;
+v176:;
+    at(u8x4_1, (v121 + (i64)v142) + v177) = at(u8x4_1, (v14 + (i64)v142) + v177);
+    u64 v178 = v177 + 4;
+    if (!(v178 == v175)) { v177 = v178; goto v176; }
+    if (v143 == v175) { v195 = v17; v196 = v121; goto v20; }
+    v185 = v175;
+v156:;
+    v187 = v185;
+v186:;
+    at(u8, (v121 + (i64)v142) + v187) = at(u8, (v14 + (i64)v142) + v187);
+    u64 v188 = v187 + 1;
+    if (v188 == v143) { v195 = v17; v196 = v121; goto v20; }
+    v187 = v188; goto v186;
+v151:;
+    memmove_any(v121 + (i64)v142, v14 + (i64)v142, v143);
+    v195 = v17; v196 = v121;
+v20:;
+    at(u8, v0) = 0;
+    at(u64_1, v0 + 8) = v18;
+    at(ptr_1, v0 + 16) = v196;
+    at(u64_1, v0 + 24) = v195;
+    at(u64_1, v0 + 32) = v195;
+    return;
+v55:;
+    at(u8, v0) = 1;
+    memset(v0 + 8, 0, 32u);
+    return;
+}
+
 static void font_layout_entry_read_entry(u8 *v0, u8 *v1, u64 v2, u8 *v3, u16 v4, u64 v5) {
     u64 v82, v84;
     u32 v83;
@@ -984,24 +1252,26 @@ v20:;
 static void font_layout_layout_Layout_open(u8 *v0, u8 *v1, u64 v2) {
     _Alignas(8) u8 v4[32], v5[24], v7[304];
     _Alignas(4) u8 v6[12];
-    u64 v31, v32;
-    u32 v74, v77, v79, v82, v169, v178;
-    u8 v133, v167, v177;
-    u16 v134, v135, v168, v179;
+    u64 v32;
+    u32 v78, v81, v83, v86, v173, v182;
+    u8 v137, v171, v181;
+    u16 v138, v139, v172, v183;
     if (v2 < 10u) goto v9;
     if (!(at(u16_1, v1) == 256u)) goto v9;
     u16 v15 = at(u16_1, v1 + 8);
-    if (v15 == 0) { v31 = 0; v32 = 0; goto v17; }
+    if (v15 == 0) { v32 = 0; goto v17; }
     u64 v20 = (u64)bswap16(v15);
     u64 v21 = v2 - 2;
     if (v21 < v20) goto v9;
     u64 v27 = (u64)bswap16(at(u16_1, v1 + (i64)v20));
-    if ((v21 - v20) < (v27 << 1)) goto v9;
-    v31 = v20; v32 = v27;
+    flag v30 = (v21 - v20) < (v27 << 1);
+    if (v30) goto v9;
+    v32 = v30 ? 0 : v27;
 v17:;
+    u64 v36 = (u64)bswap16(at(u16_1, v1 + 8));
     at(ptr, v7) = v1;
     at(u64, v7 + 8) = v2;
-    at(u64, v7 + 16) = v31;
+    at(u64, v7 + 16) = v36;
     at(u64, v7 + 24) = 0;
     at(u64, v7 + 32) = v32;
     at(ptr, v7 + 40) = v1;
@@ -1018,106 +1288,104 @@ v17:;
     at(u64, v7 + 264) = 0;
     at(u16, v7 + 272) = 3;
     memset(v7 + 274, 0, 30u);
-    v74 = 1048576u; v77 = 0; v79 = 0;
-v73:;
-    v82 = v74;
-v81:;
+    v78 = 1048576u; v81 = 0; v83 = 0;
+v77:;
+    v86 = v78;
+v85:;
     memset(v6, 0, 12u);
     memset(v4, 0, 32u);
     at(u64, v5) = 0;
-    u64 v85 = at(u64, v7 + 296);
-    if (!(v85 == 0)) goto v88;
-    u64 v140 = at(u64, v7 + 240);
-    if (!(v140 == 0)) goto v143;
+    u64 v89 = at(u64, v7 + 296);
+    if (!(v89 == 0)) goto v92;
+    u64 v144 = at(u64, v7 + 240);
+    if (!(v144 == 0)) goto v147;
     font_layout_walk_Steps_next_part(v6, v7);
-    if (at(u8, v6) == 1) { v177 = at(u8, v6 + 4); v178 = at(u32, v6 + 8); v179 = at(u16, v6 + 6); goto v170; }
-    at(u8, v0) = 0;
+    if (at(u8, v6) == 1) { v181 = at(u8, v6 + 4); v182 = at(u32, v6 + 8); v183 = at(u16, v6 + 6); goto v174; }
+    at(u64_1, v0) = 1;
     at(ptr_1, v0 + 8) = v1;
     at(u64_1, v0 + 16) = v2;
     at(u64_1, v0 + 24) = v32;
-    at(u32_1, v0 + 32) = v77;
-    at(u32_1, v0 + 36) = v79;
+    at(u32_1, v0 + 32) = v81;
+    at(u32_1, v0 + 36) = v83;
     return;
-v143:;
-    u64 v145 = at(u64, v7 + 232);
-    u16 v147 = (u16)(at(u16, v7 + 224) + ((u16)v145));
-    u8 *v151 = at(ptr, v7 + 184);
-    u64 v152 = at(u64, v7 + 192);
-    u64 v150 = v145 + ((u64)at(u16, v7 + 228));
+v147:;
+    u64 v149 = at(u64, v7 + 232);
+    u16 v151 = (u16)(at(u16, v7 + 224) + ((u16)v149));
+    u8 *v155 = at(ptr, v7 + 184);
+    u64 v156 = at(u64, v7 + 192);
+    u64 v154 = v149 + ((u64)at(u16, v7 + 228));
     at(u16, v5) = (u16)at(u8, v7 + 200);
     at(u16, v5 + 2) = at(u16, v7 + 202);
     at(u64, v5 + 8) = at(u64, v7 + 208);
     at(u64, v5 + 16) = at(u64, v7 + 216);
-    font_layout_entry_read_entry(v4, v151, v152, v5, v147, v150);
-    u16 v159 = at(u16, v4 + 2);
-    u64 v160 = at(u64, v4 + 8);
-    u64 v161 = at(u64, v4 + 16);
-    u16 v162 = (u16)at(u8, v4);
-    at(ptr, v7 + 248) = v151;
-    at(u64, v7 + 256) = v152;
-    at(u16, v7 + 264) = v147;
+    font_layout_entry_read_entry(v4, v155, v156, v5, v151, v154);
+    u16 v163 = at(u16, v4 + 2);
+    u64 v164 = at(u64, v4 + 8);
+    u64 v165 = at(u64, v4 + 16);
+    u16 v166 = (u16)at(u8, v4);
+    at(ptr, v7 + 248) = v155;
+    at(u64, v7 + 256) = v156;
+    at(u16, v7 + 264) = v151;
     memset(v7 + 266, 0, 6);
-    at(u16, v7 + 272) = v162;
-    at(u16, v7 + 274) = v159;
+    at(u16, v7 + 272) = v166;
+    at(u16, v7 + 274) = v163;
     at(u32, v7 + 276) = 0;
-    at(u64, v7 + 280) = v160;
+    at(u64, v7 + 280) = v164;
     at(u64, v7 + 288) = 0;
-    at(u64, v7 + 296) = v161;
-    at(u64, v7 + 232) = v145 + 1;
-    at(u64, v7 + 240) = v140 - 1;
-    v167 = 0; v168 = 0; v169 = at(u32, v4 + 24) + 1; goto v139;
-v88:;
-    u8 *v89 = at(ptr, v7 + 248);
-    u64 v90 = at(u64, v7 + 256);
-    u16 v91 = at(u16, v7 + 264);
-    u64 v94 = at(u64, v7 + 280);
-    u64 v95 = at(u64, v7 + 288);
+    at(u64, v7 + 296) = v165;
+    at(u64, v7 + 232) = v149 + 1;
+    at(u64, v7 + 240) = v144 - 1;
+    v171 = 0; v172 = 0; v173 = at(u32, v4 + 24) + 1; goto v143;
+v92:;
+    u8 *v93 = at(ptr, v7 + 248);
+    u64 v94 = at(u64, v7 + 256);
+    u16 v95 = at(u16, v7 + 264);
+    u64 v98 = at(u64, v7 + 280);
+    u64 v99 = at(u64, v7 + 288);
     switch (at(u8, v7 + 272)) {
-    case 0: v133 = 1; v134 = at(u16, v7 + 274); v135 = v91; goto v97;
-    case 1: goto v98;
-    case 2: goto v99;
-    case 3: goto v100;
+    case 0: v137 = 1; v138 = at(u16, v7 + 274); v139 = v95; goto v101;
+    case 1: goto v102;
+    case 2: goto v103;
+    case 3: goto v104;
     default: __builtin_trap();
     }
-v98:;
-    v133 = 1; v134 = bswap16(at(u16_1, (v89 + (i64)v94) + (i64)(v95 << 1))); v135 = v91; goto v97;
-v99:;
-    u16 v110 = at(u16_1, (v89 + (i64)v94 + 2) + (i64)(v95 << 1));
-    if (v110 == 0) { v133 = 0; v134 = 0; v135 = 0; goto v97; }
-    u64 v115 = v94 + ((u64)bswap16(v110));
-    if (v90 < 4) { v133 = 2; v134 = 0; v135 = 0; goto v97; }
-    u64 v118 = v90 - 4;
-    if (v118 < v115) { v133 = 2; v134 = 0; v135 = 0; goto v97; }
-    if ((v118 - v115) < (usub_sat64((u64)bswap16(at(u16_1, v89 + (i64)v115 + 2)), 1) << 1)) { v133 = 2; v134 = 0; v135 = 0; goto v97; }
-    v133 = 1; v134 = bswap16(at(u16_1, v89 + (i64)v115)); v135 = v91; goto v97;
-v100:;
-    v133 = 2; v134 = 0; v135 = 0;
-v97:;
-    at(u64, v7 + 288) = v95 + 1;
-    at(u64, v7 + 296) = v85 - 1;
-    v167 = v133; v168 = v135; v169 = (u32)v134;
-v139:;
-    v177 = v167; v178 = v169; v179 = v168;
-v170:;
-    switch (v177) {
-    case 0: goto v181;
-    case 1: goto v182;
-    case 2: goto v183;
+v102:;
+    v137 = 1; v138 = bswap16(at(u16_1, (v93 + (i64)v98) + (i64)(v99 << 1))); v139 = v95; goto v101;
+v103:;
+    u16 v114 = at(u16_1, (v93 + (i64)v98 + 2) + (i64)(v99 << 1));
+    if (v114 == 0) { v137 = 0; v138 = 0; v139 = 0; goto v101; }
+    u64 v119 = v98 + ((u64)bswap16(v114));
+    if (v94 < 4) { v137 = 2; v138 = 0; v139 = 0; goto v101; }
+    u64 v122 = v94 - 4;
+    if (v122 < v119) { v137 = 2; v138 = 0; v139 = 0; goto v101; }
+    if ((v122 - v119) < (usub_sat64((u64)bswap16(at(u16_1, v93 + (i64)v119 + 2)), 1) << 1)) { v137 = 2; v138 = 0; v139 = 0; goto v101; }
+    v137 = 1; v138 = bswap16(at(u16_1, v93 + (i64)v119)); v139 = v95; goto v101;
+v104:;
+    v137 = 2; v138 = 0; v139 = 0;
+v101:;
+    at(u64, v7 + 288) = v99 + 1;
+    at(u64, v7 + 296) = v89 - 1;
+    v171 = v137; v172 = v139; v173 = (u32)v138;
+v143:;
+    v181 = v171; v182 = v173; v183 = v172;
+v174:;
+    switch (v181) {
+    case 0: goto v185;
+    case 1: goto v186;
+    case 2: goto v187;
     default: __builtin_trap();
     }
-v181:;
-    if (v82 < v178) goto v183;
-    v82 = v82 - v178; goto v81;
-v182:;
-    if (v82 == 0) goto v183;
-    v74 = v82 - 1; v77 = v77 + 1; v79 = umax32(umax32(v79, ((u32)v179) + 1), (v178 & 65535u) + 1); goto v73;
-v183:;
-    at(u8, v0) = 1;
-    memset(v0 + 8, 0, 32u);
+v185:;
+    if (v86 < v182) goto v187;
+    v86 = v86 - v182; goto v85;
+v186:;
+    if (v86 == 0) goto v187;
+    v78 = v86 - 1; v81 = v81 + 1; v83 = umax32(umax32(v83, ((u32)v183) + 1), (v182 & 65535u) + 1); goto v77;
+v187:;
+    memset(v0, 0, 40u);
     return;
 v9:;
-    at(u8, v0) = 1;
-    memset(v0 + 8, 0, 32u);
+    memset(v0, 0, 40u);
     return;
 }
 
@@ -1546,111 +1814,112 @@ v6:;
 }
 
 void font_subset_cut_font_cut_of_kind(u8 *v0, u8 *v1, u8 *v2) {
-    u8 v4[1], v5[1024], v7[1024], v28[327], *v136, *v168, *v212, *v250, *v262, *v280, *v213, *v335, *v505, *v570, *v618, *v619, *v623, *v630, *v506, *v694, *v711, *v758, *v771, *v800, *v817, *v867, *v895, *v1007, *v1015, *v1016;
+    u8 v4[1], v5[1024], v7[1024], v28[327], *v135, *v167, *v211, *v249, *v261, *v279, *v212, *v334, *v504, *v569, *v617, *v618, *v622, *v629, *v505, *v693, *v710, *v757, *v770, *v799, *v816, *v866, *v894, *v1006, *v1014, *v1015;
     _Alignas(4) u8 v6[16], v10[64], v11[20], v12[32];
-    _Alignas(8) u8 v8[48], v9[24], v13[32], v14[24], v15[24], v16[384], v17[384], v18[328], v19[200], v20[144], v21[24], v22[16], v23[144], v24[320], v25[152], v26[40], v27[24], v29[320], v30[320];
-    u16 v155, v156, v157, v512, v1024, v1026;
-    u64 v169, v170, v215, v217, v221, v263, v264, v281, v282, v216, v218, v338, v340, v342, v1073, v1074, v1097, v1108, v1111, v1119, v1121, v404, v405, v417, v434, v446, v447, v470, v477, v490, v493, v500, v508, v510, v514, v556, v557, v571, v572, v594, v605, v608, v616, v624, v620, v621, v622, v631, v632, v633, v511, v647, v663, v670, v683, v686, v515, v695, v696, v712, v713, v728, v759, v772, v773, v783, v801, v802, v818, v819, v837, v843, v834, v850, v868, v869, v877, v896, v897, v920, v931, v934, v942, v944, v962, v969, v982, v985, v992, v1008, v1009, v1018, v1020, v1021, v1043, v1051, v1052, v1128, v1129, v341, v1145, v1157, v1158, v1162, v1163, v1164, v1165;
-    u32 v219, v410, v414, v411, v1022;
-    u8x16 v479, v672, v971;
-    u8 v31 = at(u8, v2);
+    _Alignas(8) u8 v8[48], v9[24], v13[32], v14[24], v15[24], v16[384], v17[384], v18[328], v19[200], v20[144], v21[24], v22[16], v23[144], v24[320], v25[152], v26[40], v27[24], v29[320];
+    u16 v154, v155, v156, v511, v1023, v1025;
+    u64 v168, v169, v214, v216, v220, v262, v263, v280, v281, v215, v217, v337, v339, v341, v1072, v1073, v1096, v1107, v1110, v1118, v1120, v403, v404, v416, v433, v445, v446, v469, v476, v489, v492, v499, v507, v509, v513, v555, v556, v570, v571, v593, v604, v607, v615, v623, v619, v620, v621, v630, v631, v632, v510, v646, v662, v669, v682, v685, v514, v694, v695, v711, v712, v727, v758, v771, v772, v782, v800, v801, v817, v818, v836, v842, v833, v849, v867, v868, v876, v895, v896, v919, v930, v933, v941, v943, v961, v968, v981, v984, v991, v1007, v1008, v1017, v1019, v1020, v1042, v1050, v1051, v1127, v1128, v340, v1144, v1150, v1151, v1152, v1153, v1160, v1161, v1162, v1163;
+    u32 v218, v409, v413, v410, v1021;
+    u8x16 v478, v671, v970;
+    u8 v30 = at(u8, v2);
     memcpy(v22, v2 + 8, 16u);
     memset(v24, 0, 320u);
     memset(v25, 0, 152u);
     memset(v26, 0, 40u);
     memset(v28, 0, 327u);
     memset(v29, 0, 320u);
-    memset(v30, 0, 320u);
     font_subset_selection_Seeds_of(v25, at(ptr, v1 + 8), 0, (u8 *)0);
-    u64 v37 = at(u64, v25 + 120);
-    if (!(at(u8, v25) == 0)) { v1162 = 1; v1163 = 0; v1164 = 0; v1165 = 0; goto v40; }
-    u64 v46 = (u64)at(u8, v25 + 112);
+    u64 v36 = at(u64, v25 + 120);
+    if (!(at(u8, v25) == 0)) { v1160 = 1; v1161 = 0; v1162 = 0; v1163 = 0; goto v39; }
+    u64 v45 = (u64)at(u8, v25 + 112);
     memcpy(v23, v25 + 8, 104u);
-    at(u64, v23 + 104) = v46;
-    at(u64, v23 + 112) = v37;
+    at(u64, v23 + 104) = v45;
+    at(u64, v23 + 112) = v36;
     memcpy(v23 + 120, v25 + 128, 24u);
-    at(u64, v27) = (u64)v31;
+    at(u64, v27) = (u64)v30;
     memcpy(v27 + 8, v22, 16u);
     font_subset_font_to_cut_FontToCut_numbers_beside_19bd(v26, v1, v23, v27);
-    if (!(at(u8, v26) == 0)) goto v54;
-    u8 v56 = at(u8, v26 + 8);
-    u8 *v58 = at(ptr, v26 + 16);
-    u64 v62 = at(u64, v26 + 32);
-    flag v64 = v56 != 1;
-    u64 v66 = v64 ? 0 : at(u64, v26 + 24);
+    if (!(at(u8, v26) == 0)) goto v53;
+    u8 v55 = at(u8, v26 + 8);
+    u8 *v57 = at(ptr, v26 + 16);
+    u64 v61 = at(u64, v26 + 32);
+    flag v63 = v55 != 1;
+    u64 v65 = v63 ? 0 : at(u64, v26 + 24);
     memset(v18, 0, 328u);
     memset(v19, 0, 200u);
     memcpy(v20, v25 + 8, 104u);
-    at(u64, v20 + 104) = v46;
-    at(u64, v20 + 112) = v37;
+    at(u64, v20 + 104) = v45;
+    at(u64, v20 + 112) = v36;
     memcpy(v20 + 120, v25 + 128, 24u);
-    at(u64, v21) = (u64)v56;
-    at(ptr, v21 + 8) = v64 ? ((u8 *)0) : v58;
-    at(u64, v21 + 16) = v66;
+    at(u64, v21) = (u64)v55;
+    at(ptr, v21 + 8) = v63 ? ((u8 *)0) : v57;
+    at(u64, v21 + 16) = v65;
     font_subset_selection_Selection_of_seeds_4cdf(v19, v1, v20, v21);
-    if (!(at(u8, v19) == 0)) goto v75;
+    if (!(at(u8, v19) == 0)) goto v74;
     font_subset_kind_source_CutOfKind_of_1490(v18, v19 + 8);
-    u8 v78 = at(u8, v18);
+    u8 v77 = at(u8, v18);
     memcpy(v28 + 7, v18 + 8, 320u);
-    if (!(v78 == 0)) goto v76;
+    if (!(v77 == 0)) goto v75;
     memcpy(v24, v28 + 7, 320u);
     memset(v16, 0, 384u);
     memset(v14, 0, 24u);
     font_write_size_file_size_22d8(v14, v24);
-    u64 v111 = at(u64, v14 + 16);
-    if (!(v111 < 134217729u)) goto v114;
-    u64 v115 = at(u64, v14);
+    u64 v110 = at(u64, v14 + 16);
+    if (!(v110 > 134217728u)) goto v113;
+    v1150 = 1; v1151 = 1; v1152 = v110; v1153 = 0; goto v1148;
+v113:;
+    u64 v114 = at(u64, v14);
     memcpy(v15 + 8, v14 + 8, 16u);
-    at(u64, v15) = v115;
+    at(u64, v15) = v114;
     font_write_plan_plan_of(v16, v24, 1, v15);
-    u64 v119 = at(u64, v15 + 16);
-    u64 v120 = at(u64, v16);
+    u64 v118 = at(u64, v15 + 16);
+    u64 v119 = at(u64, v16);
     memcpy(v17 + 8, v16 + 8, 376u);
-    at(u64, v17) = v120;
-    if (v119 == 0) { v136 = v4; goto v124; }
-    if (!((i64)v119 > (i64)0xffffffffffffffffu)) goto v128;
-    u64_u64 v130 = sys_rattle_alloc(v119, 1);
-    if (!(v130._0 & 1)) goto v128;
-    v136 = (u8 *)v130._1;
-v124:;
-    at(ptr, v13) = v136;
+    at(u64, v17) = v119;
+    if (v118 == 0) { v135 = v4; goto v123; }
+    if (!((i64)v118 > (i64)0xffffffffffffffffu)) goto v127;
+    u64_u64 v129 = sys_rattle_alloc(v118, 1);
+    if (!(v129._0 & 1)) goto v127;
+    v135 = (u8 *)v129._1;
+v123:;
+    at(ptr, v13) = v135;
     at(u64, v13 + 8) = 0;
-    at(u64, v13 + 16) = v119;
-    at(u64, v13 + 24) = (u64)134217728u - v119;
-    u16 v142 = at(u16, v17 + 352);
-    if (!(((u16)(v142 + 65535u)) < 4095u)) { v155 = 0; v156 = 0; v157 = 0; goto v146; }
-    u16 v148 = (u16)(ctlz16(v142) ^ 15u);
-    u16 v149 = (u16)((u32)16u << (v148 & 31));
-    v155 = bswap16((u16)(((u16)((u32)v142 << 4)) - v149)); v156 = (u16)((u32)v148 << 8); v157 = bswap16(v149);
-v146:;
-    u16 v158 = bswap16(v142);
-    if (!(v119 < 12u)) { v168 = v136; v169 = v119; v170 = 0; goto v161; }
-    if (!std_alloc_vec_Vec_grow_amortized_1cf2(v13, 12u)) goto v164;
-    v168 = at(ptr, v13); v169 = at(u64, v13 + 16); v170 = at(u64, v13 + 8); goto v161;
-v164:;
+    at(u64, v13 + 16) = v118;
+    at(u64, v13 + 24) = (u64)134217728u - v118;
+    u16 v141 = at(u16, v17 + 352);
+    if (!(((u16)(v141 + 65535u)) < 4095u)) { v154 = 0; v155 = 0; v156 = 0; goto v145; }
+    u16 v147 = (u16)(ctlz16(v141) ^ 15u);
+    u16 v148 = (u16)((u32)16u << (v147 & 31));
+    v154 = bswap16((u16)(((u16)((u32)v141 << 4)) - v148)); v155 = (u16)((u32)v147 << 8); v156 = bswap16(v148);
+v145:;
+    u16 v157 = bswap16(v141);
+    if (!(v118 < 12u)) { v167 = v135; v168 = v118; v169 = 0; goto v160; }
+    if (!std_alloc_vec_Vec_grow_amortized_1cf2(v13, 12u)) goto v163;
+    v167 = at(ptr, v13); v168 = at(u64, v13 + 16); v169 = at(u64, v13 + 8); goto v160;
+v163:;
     __builtin_trap();
     __builtin_trap();
-v161:;
-    at(u8, v168 + (i64)v170) = 0;
-    at(u8, v168 + (i64)v170 + 1) = 1;
-    at(u8, v168 + (i64)v170 + 2) = 0;
-    at(u8, v168 + (i64)v170 + 3) = 0;
-    at(u16_1, v168 + (i64)v170 + 4) = v158;
-    at(u16_1, v168 + (i64)v170 + 6) = v157;
-    at(u16_1, v168 + (i64)v170 + 8) = v156;
-    at(u16_1, v168 + (i64)v170 + 10) = v155;
-    u64 v179 = v170 + 12u;
-    at(ptr, v13) = v168;
-    at(u64, v13 + 8) = v179;
-    at(u64, v13 + 16) = v169;
-    v212 = v168; v215 = v179; v217 = v169; v219 = (((u32)at(u16, v17 + 352)) << 4) | 12u; v221 = 0;
-v211:;
-    u64 v223 = v221 * 12u;
-    u32 v227 = at(u32, (v17 + 4) + v223 + 4);
-    u32 v229 = at(u32, (v17 + 4) + v223 + 8);
-    if (!(at(u8, (v17 + 4) + v223) & 1)) { v213 = v212; v216 = v215; v218 = v217; goto v214; }
-    u64 v234 = at(u64, (u8 *)table_faed1f12 + (v221 << 3));
-    if (!(v234 < 16u)) goto v237;
+v160:;
+    at(u8, v167 + (i64)v169) = 0;
+    at(u8, v167 + (i64)v169 + 1) = 1;
+    at(u8, v167 + (i64)v169 + 2) = 0;
+    at(u8, v167 + (i64)v169 + 3) = 0;
+    at(u16_1, v167 + (i64)v169 + 4) = v157;
+    at(u16_1, v167 + (i64)v169 + 6) = v156;
+    at(u16_1, v167 + (i64)v169 + 8) = v155;
+    at(u16_1, v167 + (i64)v169 + 10) = v154;
+    u64 v178 = v169 + 12u;
+    at(ptr, v13) = v167;
+    at(u64, v13 + 8) = v178;
+    at(u64, v13 + 16) = v168;
+    v211 = v167; v214 = v178; v216 = v168; v218 = (((u32)at(u16, v17 + 352)) << 4) | 12u; v220 = 0;
+v210:;
+    u64 v222 = v220 * 12u;
+    u32 v226 = at(u32, (v17 + 4) + v222 + 4);
+    u32 v228 = at(u32, (v17 + 4) + v222 + 8);
+    if (!(at(u8, (v17 + 4) + v222) & 1)) { v212 = v211; v215 = v214; v217 = v216; goto v213; }
+    u64 v233 = at(u64, (u8 *)table_faed1f12 + (v220 << 3));
+    if (!(v233 < 16u)) goto v236;
     at(u32, v10) = 841962319u;
     at(u32, v10 + 4) = 1885433187u;
     at(u32, v10 + 8) = 544503395u;
@@ -1667,16 +1936,16 @@ v211:;
     at(u32, v10 + 52) = 1885696624u;
     at(u32, v10 + 56) = 1634035830u;
     at(u32, v10 + 60) = 2020896118u;
-    v250 = v10 + (v234 << 2); goto v240;
-v237:;
-    if (!(v234 < 21u)) goto v243;
+    v249 = v10 + (v233 << 2); goto v239;
+v236:;
+    if (!(v233 < 21u)) goto v242;
     at(u32, v11) = 1163084098u;
     at(u32, v11 + 4) = 1178944583u;
     at(u32, v11 + 8) = 1397706823u;
     at(u32, v11 + 12) = 1112888135u;
     at(u32, v11 + 16) = 1852990827u;
-    v250 = v11 + (i64)(v234 << 2) - 64; goto v240;
-v243:;
+    v249 = v11 + (i64)(v233 << 2) - 64; goto v239;
+v242:;
     at(u32, v12) = 1380013640u;
     at(u32, v12 + 4) = 1380013645u;
     at(u32, v12 + 8) = 1413567571u;
@@ -1685,646 +1954,639 @@ v243:;
     at(u32, v12 + 20) = 1918989923u;
     at(u32, v12 + 24) = 1918989926u;
     at(u32, v12 + 28) = 1918989927u;
-    v250 = v12 + (i64)(v234 << 2) - 84;
-v240:;
-    u32 v251 = at(u32_1, v250);
-    if (!((v217 - v215) < 4)) { v262 = v212; v263 = v217; v264 = v215; goto v255; }
-    if (!std_alloc_vec_Vec_grow_amortized_1cf2(v13, 4)) goto v258;
-    v262 = at(ptr, v13); v263 = at(u64, v13 + 16); v264 = at(u64, v13 + 8); goto v255;
-v258:;
+    v249 = v12 + (i64)(v233 << 2) - 84;
+v239:;
+    u32 v250 = at(u32_1, v249);
+    if (!((v216 - v214) < 4)) { v261 = v211; v262 = v216; v263 = v214; goto v254; }
+    if (!std_alloc_vec_Vec_grow_amortized_1cf2(v13, 4)) goto v257;
+    v261 = at(ptr, v13); v262 = at(u64, v13 + 16); v263 = at(u64, v13 + 8); goto v254;
+v257:;
     __builtin_trap();
     __builtin_trap();
-v255:;
-    at(u32_1, v262 + (i64)v264) = v251;
-    u64 v266 = v264 + 4;
-    at(ptr, v13) = v262;
-    at(u64, v13 + 8) = v266;
-    at(u64, v13 + 16) = v263;
-    u32 v267 = bswap32(v229);
-    u32 v268 = bswap32(v219);
-    u32 v269 = bswap32(v227);
-    if (!((v263 - v266) < 12u)) { v280 = v262; v281 = v263; v282 = v266; goto v273; }
-    if (!std_alloc_vec_Vec_grow_amortized_1cf2(v13, 12u)) goto v276;
-    v280 = at(ptr, v13); v281 = at(u64, v13 + 16); v282 = at(u64, v13 + 8); goto v273;
-v276:;
+v254:;
+    at(u32_1, v261 + (i64)v263) = v250;
+    u64 v265 = v263 + 4;
+    at(ptr, v13) = v261;
+    at(u64, v13 + 8) = v265;
+    at(u64, v13 + 16) = v262;
+    u32 v266 = bswap32(v228);
+    u32 v267 = bswap32(v218);
+    u32 v268 = bswap32(v226);
+    if (!((v262 - v265) < 12u)) { v279 = v261; v280 = v262; v281 = v265; goto v272; }
+    if (!std_alloc_vec_Vec_grow_amortized_1cf2(v13, 12u)) goto v275;
+    v279 = at(ptr, v13); v280 = at(u64, v13 + 16); v281 = at(u64, v13 + 8); goto v272;
+v275:;
     __builtin_trap();
     __builtin_trap();
-v273:;
-    at(u32_1, v280 + (i64)v282) = v267;
-    at(u32_1, v280 + (i64)v282 + 4) = v268;
-    at(u32_1, v280 + (i64)v282 + 8) = v269;
-    u64 v286 = v282 + 12u;
-    at(ptr, v13) = v280;
-    at(u64, v13 + 8) = v286;
-    at(u64, v13 + 16) = v281;
-    v213 = v280; v216 = v286; v218 = v281;
-v214:;
-    u64 v222 = v221 + 1;
-    if (!(v222 == 29u)) { v212 = v213; v215 = v216; v217 = v218; v219 = (v227 + v219) + (((u32)0 - v227) & 3); v221 = v222; goto v211; }
-    u64 v295 = (u64)v5;
-    v335 = v213; v338 = v216; v340 = v218; v342 = 0;
-v334:;
-    u64 v346 = at(u64, (u8 *)table_faed1f12 + (v342 << 3));
+v272:;
+    at(u32_1, v279 + (i64)v281) = v266;
+    at(u32_1, v279 + (i64)v281 + 4) = v267;
+    at(u32_1, v279 + (i64)v281 + 8) = v268;
+    u64 v285 = v281 + 12u;
+    at(ptr, v13) = v279;
+    at(u64, v13 + 8) = v285;
+    at(u64, v13 + 16) = v280;
+    v212 = v279; v215 = v285; v217 = v280;
+v213:;
+    u64 v221 = v220 + 1;
+    if (!(v221 == 29u)) { v211 = v212; v214 = v215; v216 = v217; v218 = (v226 + v218) + (((u32)0 - v226) & 3); v220 = v221; goto v210; }
+    u64 v294 = (u64)v5;
+    v334 = v212; v337 = v215; v339 = v217; v341 = 0;
+v333:;
+    u64 v345 = at(u64, (u8 *)table_faed1f12 + (v341 << 3));
     memset(v9, 0, 24u);
-    switch (v346) {
-    case 1: goto v348;
-    case 5: goto v349;
-    case 6: goto v350;
-    case 9: goto v351;
-    default: goto v347;
+    switch (v345) {
+    case 1: goto v347;
+    case 5: goto v348;
+    case 6: goto v349;
+    case 9: goto v350;
+    default: goto v346;
     }
-v347:;
-    font_subset_kind_source_CutOfKindSource_copied(v9, v24, v346);
-    if (!(at(u8, v9) == 1)) goto v1056;
-    u8 *v1059 = at(ptr, v9 + 8);
-    u64 v1060 = (u64)v1059;
-    u64 v1061 = at(u64, v9 + 16);
-    u64 v1062 = at(u64, v13 + 16);
-    u64 v1063 = at(u64, v13 + 8);
-    if (!(v1061 > (v1062 - v1063))) { v1073 = v1062; v1074 = v1063; goto v1067; }
-    if (!std_alloc_vec_Vec_grow_amortized_1cf2(v13, v1061)) goto v1070;
-    v1073 = at(u64, v13 + 16); v1074 = at(u64, v13 + 8); goto v1067;
-v1070:;
+v346:;
+    font_subset_kind_source_CutOfKindSource_copied(v9, v24, v345);
+    if (!(at(u8, v9) == 1)) goto v1055;
+    u8 *v1058 = at(ptr, v9 + 8);
+    u64 v1059 = (u64)v1058;
+    u64 v1060 = at(u64, v9 + 16);
+    u64 v1061 = at(u64, v13 + 16);
+    u64 v1062 = at(u64, v13 + 8);
+    if (!(v1060 > (v1061 - v1062))) { v1072 = v1061; v1073 = v1062; goto v1066; }
+    if (!std_alloc_vec_Vec_grow_amortized_1cf2(v13, v1060)) goto v1069;
+    v1072 = at(u64, v13 + 16); v1073 = at(u64, v13 + 8); goto v1066;
+v1069:;
     __builtin_trap();
     __builtin_trap();
-v1067:;
-    u8 *v1075 = at(ptr, v13);
-    u64 v1076 = (u64)v1075;
+v1066:;
+    u8 *v1074 = at(ptr, v13);
+    u64 v1075 = (u64)v1074;
     memset(v13 + 8, 0, 16u);
-    if (!((((u64)(v1075 + (i64)v1074)) - ((u64)v1059)) < v1061)) goto v1083;
-    if (v1061 < 4) { v1119 = 0; goto v1085; }
-    if (((v1074 + v1076) - v1060) < 32u) { v1119 = 0; goto v1085; }
-    if (v1061 < 16u) { v1108 = 0; goto v1092; }
-    u64 v1094 = v1061 & 12u;
-    u64 v1095 = v1061 & 0xfffffffffffffff0u;
-    v1097 = 0;
-v1096:;
-    at(u8x16_1, (v1075 + (i64)v1074) + v1097) = at(u8x16_1, v1059 + v1097);
-    u64 v1098 = v1097 + 16u;
-    if (!(v1098 == v1095)) { v1097 = v1098; goto v1096; }
-    if (v1061 == v1095) goto v1105;
-    if (v1094 == 0) { v1119 = v1095; goto v1085; }
-    v1108 = v1095;
-v1092:;
-    u64 v1109 = v1061 & 0xfffffffffffffffcu;
-    v1111 = v1108;
-v1110:;
-    at(u8x4_1, (v1075 + (i64)v1074) + v1111) = at(u8x4_1, v1059 + v1111);
-    u64 v1112 = v1111 + 4;
-    if (!(v1112 == v1109)) { v1111 = v1112; goto v1110; }
-    if (v1061 == v1109) goto v1105;
-    v1119 = v1109;
-v1085:;
-    v1121 = v1119;
-v1120:;
-    at(u8, (v1075 + (i64)v1074) + v1121) = at(u8, v1059 + v1121);
-    u64 v1122 = v1121 + 1;
-    if (v1122 == v1061) goto v1105;
-    v1121 = v1122; goto v1120;
-v1083:;
-    memmove_any(v1075 + (i64)v1074, v1059, v1061);
-v1105:;
-    u64 v1127 = v1074 + v1061;
-    at(ptr, v13) = v1075;
-    at(u64, v13 + 8) = v1127;
-    at(u64, v13 + 16) = v1073;
-    v1128 = v1127; v1129 = v1073; goto v453;
-v1056:;
-    v1128 = at(u64, v13 + 8); v1129 = at(u64, v13 + 16); goto v453;
-v348:;
-    u32 v353 = at(u32, v17 + 360);
-    u32 v356 = bswap32((v353 * 12u) + 16u);
-    u8 v357 = (u8)v356;
-    u8 v359 = (u8)(v356 >> 8);
-    u8 v361 = (u8)(v356 >> 16u);
-    u8 v363 = (u8)(v356 >> 24u);
-    u32 v364 = bswap32(v353);
-    u8 v365 = (u8)v364;
-    u8 v367 = (u8)(v364 >> 8);
-    u8 v369 = (u8)(v364 >> 16u);
-    u8 v371 = (u8)(v364 >> 24u);
-    flag v372 = at(u8, v17) == 0;
-    u64 v392 = v372 ? 28u : 36u;
+    if (!((((u64)(v1074 + (i64)v1073)) - ((u64)v1058)) < v1060)) goto v1082;
+    if (v1060 < 4) { v1118 = 0; goto v1084; }
+    if (((v1073 + v1075) - v1059) < 32u) { v1118 = 0; goto v1084; }
+    if (v1060 < 16u) { v1107 = 0; goto v1091; }
+    u64 v1093 = v1060 & 12u;
+    u64 v1094 = v1060 & 0xfffffffffffffff0u;
+    v1096 = 0;
+v1095:;
+    at(u8x16_1, (v1074 + (i64)v1073) + v1096) = at(u8x16_1, v1058 + v1096);
+    u64 v1097 = v1096 + 16u;
+    if (!(v1097 == v1094)) { v1096 = v1097; goto v1095; }
+    if (v1060 == v1094) goto v1104;
+    if (v1093 == 0) { v1118 = v1094; goto v1084; }
+    v1107 = v1094;
+v1091:;
+    u64 v1108 = v1060 & 0xfffffffffffffffcu;
+    v1110 = v1107;
+v1109:;
+    at(u8x4_1, (v1074 + (i64)v1073) + v1110) = at(u8x4_1, v1058 + v1110);
+    u64 v1111 = v1110 + 4;
+    if (!(v1111 == v1108)) { v1110 = v1111; goto v1109; }
+    if (v1060 == v1108) goto v1104;
+    v1118 = v1108;
+v1084:;
+    v1120 = v1118;
+v1119:;
+    at(u8, (v1074 + (i64)v1073) + v1120) = at(u8, v1058 + v1120);
+    u64 v1121 = v1120 + 1;
+    if (v1121 == v1060) goto v1104;
+    v1120 = v1121; goto v1119;
+v1082:;
+    memmove_any(v1074 + (i64)v1073, v1058, v1060);
+v1104:;
+    u64 v1126 = v1073 + v1060;
+    at(ptr, v13) = v1074;
+    at(u64, v13 + 8) = v1126;
+    at(u64, v13 + 16) = v1072;
+    v1127 = v1126; v1128 = v1072; goto v452;
+v1055:;
+    v1127 = at(u64, v13 + 8); v1128 = at(u64, v13 + 16); goto v452;
+v347:;
+    u32 v352 = at(u32, v17 + 360);
+    u32 v355 = bswap32((v352 * 12u) + 16u);
+    u8 v356 = (u8)v355;
+    u8 v358 = (u8)(v355 >> 8);
+    u8 v360 = (u8)(v355 >> 16u);
+    u8 v362 = (u8)(v355 >> 24u);
+    u32 v363 = bswap32(v352);
+    u8 v364 = (u8)v363;
+    u8 v366 = (u8)(v363 >> 8);
+    u8 v368 = (u8)(v363 >> 16u);
+    u8 v370 = (u8)(v363 >> 24u);
+    flag v371 = at(u8, v17) == 0;
+    u64 v391 = v371 ? 28u : 36u;
     at(u64, v8) = 0;
-    at(u8, v8 + 3) = v372 ? 1 : 2;
-    at(u8, v8 + 5) = v372 ? 3 : 0;
-    at(u8, v8 + 7) = v372 ? 10u : 4;
+    at(u8, v8 + 3) = v371 ? 1 : 2;
+    at(u8, v8 + 5) = v371 ? 3 : 0;
+    at(u8, v8 + 7) = v371 ? 10u : 4;
     at(u8, v8 + 8) = 0;
     at(u8, v8 + 9) = 0;
     at(u8, v8 + 10) = 0;
-    at(u8, v8 + 11) = v372 ? 12u : 20u;
+    at(u8, v8 + 11) = v371 ? 12u : 20u;
     at(u8, v8 + 12) = 0;
-    at(u8, v8 + 13) = v372 ? 12u : 3;
+    at(u8, v8 + 13) = v371 ? 12u : 3;
     at(u8, v8 + 14) = 0;
-    at(u8, v8 + 15) = v372 ? 0 : 10u;
-    at(u8, v8 + 16) = v372 ? v357 : 0;
-    at(u8, v8 + 17) = v372 ? v359 : 0;
-    at(u8, v8 + 18) = v372 ? v361 : 0;
-    at(u8, v8 + 19) = v372 ? v363 : 20u;
+    at(u8, v8 + 15) = v371 ? 0 : 10u;
+    at(u8, v8 + 16) = v371 ? v356 : 0;
+    at(u8, v8 + 17) = v371 ? v358 : 0;
+    at(u8, v8 + 18) = v371 ? v360 : 0;
+    at(u8, v8 + 19) = v371 ? v362 : 20u;
     at(u8, v8 + 20) = 0;
-    at(u8, v8 + 21) = v372 ? 0 : 12u;
+    at(u8, v8 + 21) = v371 ? 0 : 12u;
     at(u8, v8 + 22) = 0;
     at(u8, v8 + 23) = 0;
-    at(u8, v8 + 24) = v372 ? v365 : v357;
-    at(u8, v8 + 25) = v372 ? v367 : v359;
-    at(u8, v8 + 26) = v372 ? v369 : v361;
-    at(u8, v8 + 27) = v372 ? v371 : v363;
+    at(u8, v8 + 24) = v371 ? v364 : v356;
+    at(u8, v8 + 25) = v371 ? v366 : v358;
+    at(u8, v8 + 26) = v371 ? v368 : v360;
+    at(u8, v8 + 27) = v371 ? v370 : v362;
     at(u32, v8 + 28) = 0;
-    at(u8, v8 + 32) = v372 ? 0 : v365;
-    at(u8, v8 + 33) = v372 ? 0 : v367;
-    at(u8, v8 + 34) = v372 ? 0 : v369;
-    at(u8, v8 + 35) = v372 ? 0 : v371;
+    at(u8, v8 + 32) = v371 ? 0 : v364;
+    at(u8, v8 + 33) = v371 ? 0 : v366;
+    at(u8, v8 + 34) = v371 ? 0 : v368;
+    at(u8, v8 + 35) = v371 ? 0 : v370;
     at(u32, v8 + 36) = 0;
-    at(u64, v8 + 40) = v392;
-    u64 v393 = at(u64, v13 + 16);
-    u64 v394 = at(u64, v13 + 8);
-    if (!(v392 > (v393 - v394))) { v404 = v393; v405 = v394; goto v398; }
-    if (!std_alloc_vec_Vec_grow_amortized_1cf2(v13, v392)) goto v401;
-    v404 = at(u64, v13 + 16); v405 = at(u64, v13 + 8); goto v398;
-v401:;
+    at(u64, v8 + 40) = v391;
+    u64 v392 = at(u64, v13 + 16);
+    u64 v393 = at(u64, v13 + 8);
+    if (!(v391 > (v392 - v393))) { v403 = v392; v404 = v393; goto v397; }
+    if (!std_alloc_vec_Vec_grow_amortized_1cf2(v13, v391)) goto v400;
+    v403 = at(u64, v13 + 16); v404 = at(u64, v13 + 8); goto v397;
+v400:;
     __builtin_trap();
     __builtin_trap();
-v398:;
-    u8 *v406 = at(ptr, v13);
-    memcpy_any(v406 + (i64)v405, v8, v392);
-    at(ptr, v13) = v406;
-    at(u64, v13 + 8) = v405 + v392;
-    at(u64, v13 + 16) = v404;
+v397:;
+    u8 *v405 = at(ptr, v13);
+    memcpy_any(v405 + (i64)v404, v8, v391);
+    at(ptr, v13) = v405;
+    at(u64, v13 + 8) = v404 + v391;
+    at(u64, v13 + 16) = v403;
     memset(v7, 0, 1024u);
-    v410 = 0;
-v409:;
+    v409 = 0;
+v408:;
     memset(v6, 0, 16u);
-    v414 = v410; v417 = 0;
-v413:;
-    font_subset_kind_source_CutOfKindSource_next_run(v6, v24, v414);
-    if (!(at(u8, v6) == 1)) { v411 = v414; v434 = v417; goto v421; }
-    u32 v423 = at(u32, v6 + 8);
-    u64 v425 = v417 * 12u;
-    u16 v424 = at(u16, v6 + 12);
-    at(u32_1, v7 + v425) = bswap32(at(u32, v6 + 4));
-    at(u32_1, v7 + v425 + 4) = bswap32(v423);
-    at(u32_1, v7 + v425 + 8) = bswap32((u32)v424);
-    u32 v415 = v423 + 1;
-    u64 v418 = v417 + 1;
-    if (v418 == 85u) { v411 = v415; v434 = 85u; } else { v414 = v415; v417 = v418; goto v413; }
-v421:;
-    u64 v435 = v434 * 12u;
-    u64 v436 = at(u64, v13 + 16);
-    u64 v437 = at(u64, v13 + 8);
-    if (!(v435 > (v436 - v437))) { v446 = v436; v447 = v437; goto v412; }
-    if (!std_alloc_vec_Vec_grow_amortized_1cf2(v13, v435)) goto v443;
-    v446 = at(u64, v13 + 16); v447 = at(u64, v13 + 8); goto v412;
-v443:;
-    __builtin_trap();
-    __builtin_trap();
+    v413 = v409; v416 = 0;
 v412:;
-    u8 *v448 = at(ptr, v13);
-    memcpy_any(v448 + (i64)v447, v7, v435);
-    u64 v450 = v447 + v435;
-    at(ptr, v13) = v448;
-    at(u64, v13 + 8) = v450;
-    at(u64, v13 + 16) = v446;
-    if (v434 == 85u) { v410 = v411; goto v409; }
-    v1128 = v450; v1129 = v446; goto v453;
-v349:;
-    u8 v454 = at(u8, v17);
-    u64 v455 = at(u64, v17 + 368);
-    u16 v458 = at(u16, at(ptr, v24 + 8) + 64);
-    u8 *v459 = at(ptr, v24 + 168);
-    u64 v460 = at(u64, v24 + 176);
-    if (v460 == 0) { v490 = 0; goto v462; }
-    if (at(u8, v459) & 1) { v500 = 0; goto v466; }
-    if (v460 < 64u) { v490 = 0; goto v462; }
-    v470 = 0;
-v469:;
-    if (v470 == 0xffffffffffffffc0u) goto v472;
-    v477 = 0; v479 = (u8x16){0};
-v476:;
-    u8x16 v480 = v479 | ((-(at(u8x16_1, (v459 + (i64)v470) + (i64)v477) & 1)));
-    u64 v478 = v477 + 16u;
-    if (!(v478 == 64u)) { v477 = v478; v479 = v480; goto v476; }
-    if (!(bits_u8x16(v480) == 0)) { v490 = v470; goto v462; }
-v472:;
-    u64 v471 = v470 + 64u;
-    if ((v460 - v471) < 64u) v490 = v471; else { v470 = v471; goto v469; }
-v462:;
-    if (v490 < v460) v493 = v490; else { v500 = v460; goto v466; }
-v492:;
-    if (at(u8, v459 + v493) & 1) { v500 = v493; goto v466; }
-    u64 v494 = v493 + 1;
-    if (v494 == v460) v500 = v460; else { v493 = v494; goto v492; }
-v466:;
-    u16 v501 = (u16)v500;
-    if (v458 > v501) { v505 = v335; v508 = v338; v510 = v340; v512 = v501; v514 = v500; } else { v694 = v335; v695 = v338; v696 = v340; goto v504; }
-v503:;
-    u8 *v516 = at(ptr, v24 + 8);
-    if (!(at(u16, v516 + 64) > v512)) goto v521;
-    u8 *v527 = at(ptr_1, v516 + 32);
-    u8 *v529 = at(ptr_1, v516 + 48);
-    u64 v530 = (u64)v529;
-    u64 v531 = v514 & 65535u;
-    if (!(at(u8, v516 + 70) == 0)) goto v534;
-    u64 v535 = v531 << 1;
-    v556 = ((u64)bswap16(at(u16_1, v527 + (i64)v535))) << 1; v557 = ((u64)bswap16(at(u16_1, v527 + (i64)v535 + 2))) << 1; goto v546;
-v534:;
-    u64 v547 = v531 << 2;
-    v556 = (u64)bswap32(at(u32_1, v527 + (i64)v547)); v557 = (u64)bswap32(at(u32_1, v527 + (i64)v547 + 4));
-v546:;
-    u64 v559 = v557 - v556;
-    if (!(v559 > (v510 - v508))) { v570 = v505; v571 = v510; v572 = v508; goto v563; }
-    if (!std_alloc_vec_Vec_grow_amortized_1cf2(v13, v559)) goto v566;
-    v570 = at(ptr, v13); v571 = at(u64, v13 + 16); v572 = at(u64, v13 + 8); goto v563;
-v566:;
+    font_subset_kind_source_CutOfKindSource_next_run(v6, v24, v413);
+    if (!(at(u8, v6) == 1)) { v410 = v413; v433 = v416; goto v420; }
+    u32 v422 = at(u32, v6 + 8);
+    u64 v424 = v416 * 12u;
+    u16 v423 = at(u16, v6 + 12);
+    at(u32_1, v7 + v424) = bswap32(at(u32, v6 + 4));
+    at(u32_1, v7 + v424 + 4) = bswap32(v422);
+    at(u32_1, v7 + v424 + 8) = bswap32((u32)v423);
+    u32 v414 = v422 + 1;
+    u64 v417 = v416 + 1;
+    if (v417 == 85u) { v410 = v414; v433 = 85u; } else { v413 = v414; v416 = v417; goto v412; }
+v420:;
+    u64 v434 = v433 * 12u;
+    u64 v435 = at(u64, v13 + 16);
+    u64 v436 = at(u64, v13 + 8);
+    if (!(v434 > (v435 - v436))) { v445 = v435; v446 = v436; goto v411; }
+    if (!std_alloc_vec_Vec_grow_amortized_1cf2(v13, v434)) goto v442;
+    v445 = at(u64, v13 + 16); v446 = at(u64, v13 + 8); goto v411;
+v442:;
     __builtin_trap();
     __builtin_trap();
-v563:;
-    u64 v573 = (u64)v570;
+v411:;
+    u8 *v447 = at(ptr, v13);
+    memcpy_any(v447 + (i64)v446, v7, v434);
+    u64 v449 = v446 + v434;
+    at(ptr, v13) = v447;
+    at(u64, v13 + 8) = v449;
+    at(u64, v13 + 16) = v445;
+    if (v433 == 85u) { v409 = v410; goto v408; }
+    v1127 = v449; v1128 = v445; goto v452;
+v348:;
+    u8 v453 = at(u8, v17);
+    u64 v454 = at(u64, v17 + 368);
+    u16 v457 = at(u16, at(ptr, v24 + 8) + 64);
+    u8 *v458 = at(ptr, v24 + 168);
+    u64 v459 = at(u64, v24 + 176);
+    if (v459 == 0) { v489 = 0; goto v461; }
+    if (at(u8, v458) & 1) { v499 = 0; goto v465; }
+    if (v459 < 64u) { v489 = 0; goto v461; }
+    v469 = 0;
+v468:;
+    if (v469 == 0xffffffffffffffc0u) goto v471;
+    v476 = 0; v478 = (u8x16){0};
+v475:;
+    u8x16 v479 = v478 | ((-(at(u8x16_1, (v458 + (i64)v469) + (i64)v476) & 1)));
+    u64 v477 = v476 + 16u;
+    if (!(v477 == 64u)) { v476 = v477; v478 = v479; goto v475; }
+    if (!(bits_u8x16(v479) == 0)) { v489 = v469; goto v461; }
+v471:;
+    u64 v470 = v469 + 64u;
+    if ((v459 - v470) < 64u) v489 = v470; else { v469 = v470; goto v468; }
+v461:;
+    if (v489 < v459) v492 = v489; else { v499 = v459; goto v465; }
+v491:;
+    if (at(u8, v458 + v492) & 1) { v499 = v492; goto v465; }
+    u64 v493 = v492 + 1;
+    if (v493 == v459) v499 = v459; else { v492 = v493; goto v491; }
+v465:;
+    u16 v500 = (u16)v499;
+    if (v457 > v500) { v504 = v334; v507 = v337; v509 = v339; v511 = v500; v513 = v499; } else { v693 = v334; v694 = v337; v695 = v339; goto v503; }
+v502:;
+    u8 *v515 = at(ptr, v24 + 8);
+    if (!(at(u16, v515 + 64) > v511)) goto v520;
+    u8 *v526 = at(ptr_1, v515 + 32);
+    u8 *v528 = at(ptr_1, v515 + 48);
+    u64 v529 = (u64)v528;
+    u64 v530 = v513 & 65535u;
+    if (!(at(u8, v515 + 70) == 0)) goto v533;
+    u64 v534 = v530 << 1;
+    v555 = ((u64)bswap16(at(u16_1, v526 + (i64)v534))) << 1; v556 = ((u64)bswap16(at(u16_1, v526 + (i64)v534 + 2))) << 1; goto v545;
+v533:;
+    u64 v546 = v530 << 2;
+    v555 = (u64)bswap32(at(u32_1, v526 + (i64)v546)); v556 = (u64)bswap32(at(u32_1, v526 + (i64)v546 + 4));
+v545:;
+    u64 v558 = v556 - v555;
+    if (!(v558 > (v509 - v507))) { v569 = v504; v570 = v509; v571 = v507; goto v562; }
+    if (!std_alloc_vec_Vec_grow_amortized_1cf2(v13, v558)) goto v565;
+    v569 = at(ptr, v13); v570 = at(u64, v13 + 16); v571 = at(u64, v13 + 8); goto v562;
+v565:;
+    __builtin_trap();
+    __builtin_trap();
+v562:;
+    u64 v572 = (u64)v569;
     memset(v13 + 8, 0, 16u);
-    if (!((((u64)(v570 + (i64)v572)) - ((u64)(v529 + (i64)v556))) < v559)) { v618 = v570 + (i64)v572; v619 = v570; v620 = v572; v621 = v571; v622 = v559; v623 = v529 + (i64)v556; goto v523; }
-    if (v559 < 4) { v616 = 0; goto v581; }
-    if (((v572 + v573) - (v556 + v530)) < 32u) { v616 = 0; goto v581; }
-    if (v559 < 16u) { v605 = 0; goto v589; }
-    u64 v591 = v559 & 12u;
-    u64 v592 = v559 & 0xfffffffffffffff0u;
-    v594 = 0;
-v593:;
-    at(u8x16_1, (v570 + (i64)v572) + v594) = at(u8x16_1, (v529 + (i64)v556) + v594);
-    u64 v595 = v594 + 16u;
-    if (!(v595 == v592)) { v594 = v595; goto v593; }
-    if (v559 == v592) { v630 = v570; v631 = v572; v632 = v571; v633 = v559; goto v602; }
-    if (v591 == 0) { v616 = v592; goto v581; }
-    v605 = v592;
-v589:;
-    u64 v606 = v559 & 0xfffffffffffffffcu;
-    v608 = v605;
-v607:;
-    at(u8x4_1, (v570 + (i64)v572) + v608) = at(u8x4_1, (v529 + (i64)v556) + v608);
-    u64 v609 = v608 + 4;
-    if (!(v609 == v606)) { v608 = v609; goto v607; }
-    if (v559 == v606) { v630 = v570; v631 = v572; v632 = v571; v633 = v559; goto v602; }
-    v616 = v606;
-v581:;
-    v624 = v616;
-v617:;
-    at(u8, (v570 + (i64)v572) + v624) = at(u8, (v529 + (i64)v556) + v624);
-    u64 v625 = v624 + 1;
-    if (v625 == v559) { v630 = v570; v631 = v572; v632 = v571; v633 = v559; goto v602; }
-    v624 = v625; goto v617;
-v521:;
+    if (!((((u64)(v569 + (i64)v571)) - ((u64)(v528 + (i64)v555))) < v558)) { v617 = v569 + (i64)v571; v618 = v569; v619 = v571; v620 = v570; v621 = v558; v622 = v528 + (i64)v555; goto v522; }
+    if (v558 < 4) { v615 = 0; goto v580; }
+    if (((v571 + v572) - (v555 + v529)) < 32u) { v615 = 0; goto v580; }
+    if (v558 < 16u) { v604 = 0; goto v588; }
+    u64 v590 = v558 & 12u;
+    u64 v591 = v558 & 0xfffffffffffffff0u;
+    v593 = 0;
+v592:;
+    at(u8x16_1, (v569 + (i64)v571) + v593) = at(u8x16_1, (v528 + (i64)v555) + v593);
+    u64 v594 = v593 + 16u;
+    if (!(v594 == v591)) { v593 = v594; goto v592; }
+    if (v558 == v591) { v629 = v569; v630 = v571; v631 = v570; v632 = v558; goto v601; }
+    if (v590 == 0) { v615 = v591; goto v580; }
+    v604 = v591;
+v588:;
+    u64 v605 = v558 & 0xfffffffffffffffcu;
+    v607 = v604;
+v606:;
+    at(u8x4_1, (v569 + (i64)v571) + v607) = at(u8x4_1, (v528 + (i64)v555) + v607);
+    u64 v608 = v607 + 4;
+    if (!(v608 == v605)) { v607 = v608; goto v606; }
+    if (v558 == v605) { v629 = v569; v630 = v571; v631 = v570; v632 = v558; goto v601; }
+    v615 = v605;
+v580:;
+    v623 = v615;
+v616:;
+    at(u8, (v569 + (i64)v571) + v623) = at(u8, (v528 + (i64)v555) + v623);
+    u64 v624 = v623 + 1;
+    if (v624 == v558) { v629 = v569; v630 = v571; v631 = v570; v632 = v558; goto v601; }
+    v623 = v624; goto v616;
+v520:;
     memset(v13 + 8, 0, 16u);
-    v618 = v505 + (i64)v508; v619 = v505; v620 = v508; v621 = v510; v622 = 0; v623 = (u8 *)table_d0e67785;
-v523:;
-    memmove_any(v618, v623, v622);
-    v630 = v619; v631 = v620; v632 = v621; v633 = v622;
-v602:;
-    u64 v634 = v633 + v631;
-    at(ptr, v13) = v630;
-    at(u64, v13 + 8) = v634;
-    at(u64, v13 + 16) = v632;
-    u64 v636 = ((u64)0 - v633) & 3;
-    if (!(v636 > (v632 - v634))) { v506 = v630; v511 = v632; v647 = v634; goto v640; }
-    if (!std_alloc_vec_Vec_grow_amortized_1cf2(v13, v636)) goto v643;
-    v506 = at(ptr, v13); v511 = at(u64, v13 + 16); v647 = at(u64, v13 + 8); goto v640;
-v643:;
+    v617 = v504 + (i64)v507; v618 = v504; v619 = v507; v620 = v509; v621 = 0; v622 = (u8 *)table_d0e67785;
+v522:;
+    memmove_any(v617, v622, v621);
+    v629 = v618; v630 = v619; v631 = v620; v632 = v621;
+v601:;
+    u64 v633 = v632 + v630;
+    at(ptr, v13) = v629;
+    at(u64, v13 + 8) = v633;
+    at(u64, v13 + 16) = v631;
+    u64 v635 = ((u64)0 - v632) & 3;
+    if (!(v635 > (v631 - v633))) { v505 = v629; v510 = v631; v646 = v633; goto v639; }
+    if (!std_alloc_vec_Vec_grow_amortized_1cf2(v13, v635)) goto v642;
+    v505 = at(ptr, v13); v510 = at(u64, v13 + 16); v646 = at(u64, v13 + 8); goto v639;
+v642:;
     __builtin_trap();
     __builtin_trap();
-v640:;
-    memset_any(v506 + (i64)v647, 0, v636);
-    u64 v509 = v647 + v636;
-    at(ptr, v13) = v506;
-    at(u64, v13 + 8) = v509;
-    at(u64, v13 + 16) = v511;
-    u64 v650 = (v514 + 1) & 65535u;
-    u8 *v651 = at(ptr, v24 + 168);
-    u64 v652 = at(u64, v24 + 176);
-    if (!(v652 > v650)) goto v655;
-    if (at(u8, v651 + v650) & 1) { v515 = v650; goto v507; }
-v655:;
-    if ((v652 - v650) < 64u) { v683 = v650; goto v661; }
-    v663 = v650;
-v662:;
-    if (!(v663 < 0xffffffffffffffc0u)) goto v665;
-    v670 = 0; v672 = (u8x16){0};
-v669:;
-    u8x16 v673 = v672 | ((-(at(u8x16_1, (v651 + (i64)v663) + (i64)v670) & 1)));
-    u64 v671 = v670 + 16u;
-    if (!(v671 == 64u)) { v670 = v671; v672 = v673; goto v669; }
-    if (!(bits_u8x16(v673) == 0)) { v683 = v663; goto v661; }
-v665:;
-    u64 v664 = v663 + 64u;
-    if ((v652 - v664) < 64u) v683 = v664; else { v663 = v664; goto v662; }
+v639:;
+    memset_any(v505 + (i64)v646, 0, v635);
+    u64 v508 = v646 + v635;
+    at(ptr, v13) = v505;
+    at(u64, v13 + 8) = v508;
+    at(u64, v13 + 16) = v510;
+    u64 v649 = (v513 + 1) & 65535u;
+    u8 *v650 = at(ptr, v24 + 168);
+    u64 v651 = at(u64, v24 + 176);
+    if (!(v651 > v649)) goto v654;
+    if (at(u8, v650 + v649) & 1) { v514 = v649; goto v506; }
+v654:;
+    if ((v651 - v649) < 64u) { v682 = v649; goto v660; }
+    v662 = v649;
 v661:;
-    if (v683 < v652) v686 = v683; else { v515 = v652; goto v507; }
-v685:;
-    if (at(u8, v651 + v686) & 1) { v515 = v686; goto v507; }
-    u64 v687 = v686 + 1;
-    if (v687 == v652) v515 = v652; else { v686 = v687; goto v685; }
-v507:;
-    u16 v513 = (u16)v515;
-    if (v458 > v513) { v505 = v506; v508 = v509; v510 = v511; v512 = v513; v514 = v515; goto v503; }
-    v694 = v506; v695 = v509; v696 = v511;
-v504:;
-    u64 v700 = (v454 == 0) ? 0 : ((v455 == 0) ? 4 : 0);
-    if (!(v700 > (v696 - v695))) { v711 = v694; v712 = v696; v713 = v695; goto v704; }
-    if (!std_alloc_vec_Vec_grow_amortized_1cf2(v13, v700)) goto v707;
-    v711 = at(ptr, v13); v712 = at(u64, v13 + 16); v713 = at(u64, v13 + 8); goto v704;
-v707:;
+    if (!(v662 < 0xffffffffffffffc0u)) goto v664;
+    v669 = 0; v671 = (u8x16){0};
+v668:;
+    u8x16 v672 = v671 | ((-(at(u8x16_1, (v650 + (i64)v662) + (i64)v669) & 1)));
+    u64 v670 = v669 + 16u;
+    if (!(v670 == 64u)) { v669 = v670; v671 = v672; goto v668; }
+    if (!(bits_u8x16(v672) == 0)) { v682 = v662; goto v660; }
+v664:;
+    u64 v663 = v662 + 64u;
+    if ((v651 - v663) < 64u) v682 = v663; else { v662 = v663; goto v661; }
+v660:;
+    if (v682 < v651) v685 = v682; else { v514 = v651; goto v506; }
+v684:;
+    if (at(u8, v650 + v685) & 1) { v514 = v685; goto v506; }
+    u64 v686 = v685 + 1;
+    if (v686 == v651) v514 = v651; else { v685 = v686; goto v684; }
+v506:;
+    u16 v512 = (u16)v514;
+    if (v457 > v512) { v504 = v505; v507 = v508; v509 = v510; v511 = v512; v513 = v514; goto v502; }
+    v693 = v505; v694 = v508; v695 = v510;
+v503:;
+    u64 v699 = (v453 == 0) ? 0 : ((v454 == 0) ? 4 : 0);
+    if (!(v699 > (v695 - v694))) { v710 = v693; v711 = v695; v712 = v694; goto v703; }
+    if (!std_alloc_vec_Vec_grow_amortized_1cf2(v13, v699)) goto v706;
+    v710 = at(ptr, v13); v711 = at(u64, v13 + 16); v712 = at(u64, v13 + 8); goto v703;
+v706:;
     __builtin_trap();
     __builtin_trap();
-v704:;
-    memset_any(v711 + (i64)v713, 0, v700);
-    u64 v715 = v713 + v700;
-    at(ptr, v13) = v711;
-    at(u64, v13 + 8) = v715;
-    at(u64, v13 + 16) = v712;
-    v1128 = v715; v1129 = v712; goto v453;
-v350:;
-    u32 v716 = at(u32, v17 + 376);
-    u8 *v718 = at(ptr_1, at(ptr, v24 + 8));
-    u16 v720 = at(u16_1, v718 + 4);
-    u64 v722 = (u64)bswap16(v720);
-    if (v720 == 0) { v758 = (u8 *)table_d0e67785; v759 = 0xffffffffffffffccu; goto v724; }
-    v728 = 0;
-v725:;
-    u64 v730 = v728 << 4;
-    if (!((((at(u8, v718 + (i64)v730 + 12) == 104u) & (at(u8, v718 + (i64)v730 + 13) == 101u)) & (at(u8, v718 + (i64)v730 + 14) == 97u)) & (at(u8, v718 + (i64)v730 + 15) == 100u))) goto v726;
-    v758 = v718 + (i64)((u64)bswap32(at(u32_1, v718 + (i64)v730 + 20))); v759 = ((u64)bswap32(at(u32_1, v718 + (i64)v730 + 24))) - 52u; goto v724;
-v726:;
-    u64 v727 = v728 + 1;
-    if (v727 == v722) { v758 = (u8 *)table_d0e67785; v759 = 0xffffffffffffffccu; } else { v728 = v727; goto v725; }
+v703:;
+    memset_any(v710 + (i64)v712, 0, v699);
+    u64 v714 = v712 + v699;
+    at(ptr, v13) = v710;
+    at(u64, v13 + 8) = v714;
+    at(u64, v13 + 16) = v711;
+    v1127 = v714; v1128 = v711; goto v452;
+v349:;
+    u32 v715 = at(u32, v17 + 376);
+    u8 *v717 = at(ptr_1, at(ptr, v24 + 8));
+    u16 v719 = at(u16_1, v717 + 4);
+    u64 v721 = (u64)bswap16(v719);
+    if (v719 == 0) { v757 = (u8 *)table_d0e67785; v758 = 0xffffffffffffffccu; goto v723; }
+    v727 = 0;
 v724:;
-    u64 v760 = (u64)v758;
-    if (!((v340 - v338) < 8)) { v771 = v335; v772 = v340; v773 = v338; goto v764; }
-    if (!std_alloc_vec_Vec_grow_amortized_1cf2(v13, 8)) goto v767;
-    v771 = at(ptr, v13); v772 = at(u64, v13 + 16); v773 = at(u64, v13 + 8); goto v764;
-v767:;
+    u64 v729 = v727 << 4;
+    if (!((((at(u8, v717 + (i64)v729 + 12) == 104u) & (at(u8, v717 + (i64)v729 + 13) == 101u)) & (at(u8, v717 + (i64)v729 + 14) == 97u)) & (at(u8, v717 + (i64)v729 + 15) == 100u))) goto v725;
+    v757 = v717 + (i64)((u64)bswap32(at(u32_1, v717 + (i64)v729 + 20))); v758 = ((u64)bswap32(at(u32_1, v717 + (i64)v729 + 24))) - 52u; goto v723;
+v725:;
+    u64 v726 = v727 + 1;
+    if (v726 == v721) { v757 = (u8 *)table_d0e67785; v758 = 0xffffffffffffffccu; } else { v727 = v726; goto v724; }
+v723:;
+    u64 v759 = (u64)v757;
+    if (!((v339 - v337) < 8)) { v770 = v334; v771 = v339; v772 = v337; goto v763; }
+    if (!std_alloc_vec_Vec_grow_amortized_1cf2(v13, 8)) goto v766;
+    v770 = at(ptr, v13); v771 = at(u64, v13 + 16); v772 = at(u64, v13 + 8); goto v763;
+v766:;
     __builtin_trap();
     __builtin_trap();
-v764:;
+v763:;
     memset(v13 + 8, 0, 16u);
-    if ((((u64)(v771 + (i64)v773)) - ((u64)v758)) < 8) v783 = 0; else goto v780;
+    if ((((u64)(v770 + (i64)v772)) - ((u64)v757)) < 8) v782 = 0; else goto v779;
+v778:;
+    at(u8, (v770 + (i64)v772) + v782) = at(u8, v757 + v782);
+    u64 v783 = v782 + 1;
+    if (v783 == 8) goto v781;
+    v782 = v783; goto v778;
 v779:;
-    at(u8, (v771 + (i64)v773) + v783) = at(u8, v758 + v783);
-    u64 v784 = v783 + 1;
-    if (v784 == 8) goto v782;
-    v783 = v784; goto v779;
-v780:;
-    at(u64_1, v771 + (i64)v773) = at(u64_1, v758);
-v782:;
-    u64 v789 = v773 + 8;
-    at(ptr, v13) = v771;
-    at(u64, v13 + 8) = v789;
-    at(u64, v13 + 16) = v772;
-    if (!((v772 - v789) < 4)) { v800 = v771; v801 = v772; v802 = v789; goto v793; }
-    if (!std_alloc_vec_Vec_grow_amortized_1cf2(v13, 4)) goto v796;
-    v800 = at(ptr, v13); v801 = at(u64, v13 + 16); v802 = at(u64, v13 + 8); goto v793;
-v796:;
+    at(u64_1, v770 + (i64)v772) = at(u64_1, v757);
+v781:;
+    u64 v788 = v772 + 8;
+    at(ptr, v13) = v770;
+    at(u64, v13 + 8) = v788;
+    at(u64, v13 + 16) = v771;
+    if (!((v771 - v788) < 4)) { v799 = v770; v800 = v771; v801 = v788; goto v792; }
+    if (!std_alloc_vec_Vec_grow_amortized_1cf2(v13, 4)) goto v795;
+    v799 = at(ptr, v13); v800 = at(u64, v13 + 16); v801 = at(u64, v13 + 8); goto v792;
+v795:;
     __builtin_trap();
     __builtin_trap();
-v793:;
-    at(u32_1, v800 + (i64)v802) = bswap32(v716);
-    u64 v805 = v802 + 4;
-    at(ptr, v13) = v800;
-    at(u64, v13 + 8) = v805;
-    at(u64, v13 + 16) = v801;
-    if (!((v801 - v805) < 38u)) { v817 = v800; v818 = v801; v819 = v805; goto v810; }
-    if (!std_alloc_vec_Vec_grow_amortized_1cf2(v13, 38u)) goto v813;
-    v817 = at(ptr, v13); v818 = at(u64, v13 + 16); v819 = at(u64, v13 + 8); goto v810;
-v813:;
+v792:;
+    at(u32_1, v799 + (i64)v801) = bswap32(v715);
+    u64 v804 = v801 + 4;
+    at(ptr, v13) = v799;
+    at(u64, v13 + 8) = v804;
+    at(u64, v13 + 16) = v800;
+    if (!((v800 - v804) < 38u)) { v816 = v799; v817 = v800; v818 = v804; goto v809; }
+    if (!std_alloc_vec_Vec_grow_amortized_1cf2(v13, 38u)) goto v812;
+    v816 = at(ptr, v13); v817 = at(u64, v13 + 16); v818 = at(u64, v13 + 8); goto v809;
+v812:;
     __builtin_trap();
     __builtin_trap();
-v810:;
+v809:;
     memset(v13 + 8, 0, 16u);
-    if (!((((u64)(v817 + (i64)v819)) - ((u64)(v758 + 12))) < 38u)) goto v826;
-    if ((((v819 - 12u) + ((u64)v817)) - v760) < 32u) { v834 = 0; goto v832; }
-    v837 = 0;
-v833:;
-    at(u8x16_1, (v817 + (i64)v819) + v837) = at(u8x16_1, (v758 + 12) + v837);
-    u64 v838 = v837 + 16u;
-    if (v838 == 32u) v843 = 32u; else { v837 = v838; goto v833; }
-v835:;
-    at(u8x4_1, (v817 + (i64)v819) + v843) = at(u8x4_1, (v758 + 12) + v843);
-    u64 v844 = v843 + 4;
-    if (v844 == 36u) v834 = 36u; else { v843 = v844; goto v835; }
+    if (!((((u64)(v816 + (i64)v818)) - ((u64)(v757 + 12))) < 38u)) goto v825;
+    if ((((v818 - 12u) + ((u64)v816)) - v759) < 32u) { v833 = 0; goto v831; }
+    v836 = 0;
 v832:;
-    v850 = v834;
-v836:;
-    at(u8, (v817 + (i64)v819) + v850) = at(u8, (v758 + 12) + v850);
-    u64 v851 = v850 + 1;
-    if (v851 == 38u) goto v849;
-    v850 = v851; goto v836;
-v826:;
-    memmove(v817 + (i64)v819, v758 + 12, 38u);
-v849:;
-    u64 v856 = v819 + 38u;
-    at(ptr, v13) = v817;
-    at(u64, v13 + 8) = v856;
-    at(u64, v13 + 16) = v818;
-    if (!((v818 - v856) < 2)) { v867 = v817; v868 = v818; v869 = v856; goto v860; }
-    if (!std_alloc_vec_Vec_grow_amortized_1cf2(v13, 2)) goto v863;
-    v867 = at(ptr, v13); v868 = at(u64, v13 + 16); v869 = at(u64, v13 + 8); goto v860;
-v863:;
+    at(u8x16_1, (v816 + (i64)v818) + v836) = at(u8x16_1, (v757 + 12) + v836);
+    u64 v837 = v836 + 16u;
+    if (v837 == 32u) v842 = 32u; else { v836 = v837; goto v832; }
+v834:;
+    at(u8x4_1, (v816 + (i64)v818) + v842) = at(u8x4_1, (v757 + 12) + v842);
+    u64 v843 = v842 + 4;
+    if (v843 == 36u) v833 = 36u; else { v842 = v843; goto v834; }
+v831:;
+    v849 = v833;
+v835:;
+    at(u8, (v816 + (i64)v818) + v849) = at(u8, (v757 + 12) + v849);
+    u64 v850 = v849 + 1;
+    if (v850 == 38u) goto v848;
+    v849 = v850; goto v835;
+v825:;
+    memmove(v816 + (i64)v818, v757 + 12, 38u);
+v848:;
+    u64 v855 = v818 + 38u;
+    at(ptr, v13) = v816;
+    at(u64, v13 + 8) = v855;
+    at(u64, v13 + 16) = v817;
+    if (!((v817 - v855) < 2)) { v866 = v816; v867 = v817; v868 = v855; goto v859; }
+    if (!std_alloc_vec_Vec_grow_amortized_1cf2(v13, 2)) goto v862;
+    v866 = at(ptr, v13); v867 = at(u64, v13 + 16); v868 = at(u64, v13 + 8); goto v859;
+v862:;
     __builtin_trap();
     __builtin_trap();
-v860:;
-    if ((((u64)(v867 + (i64)v869)) - ((u64)(u8 *)table_87e6e93c)) < 2) v877 = 0; else goto v875;
+v859:;
+    if ((((u64)(v866 + (i64)v868)) - ((u64)(u8 *)table_87e6e93c)) < 2) v876 = 0; else goto v874;
+v873:;
+    at(u8, (v866 + (i64)v868) + v876) = at(u8, (u8 *)table_87e6e93c + v876);
+    u64 v877 = v876 + 1;
+    if (v877 == 2) goto v875;
+    v876 = v877; goto v873;
 v874:;
-    at(u8, (v867 + (i64)v869) + v877) = at(u8, (u8 *)table_87e6e93c + v877);
-    u64 v878 = v877 + 1;
-    if (v878 == 2) goto v876;
-    v877 = v878; goto v874;
+    at(u16_1, v866 + (i64)v868) = 256u;
 v875:;
-    at(u16_1, v867 + (i64)v869) = 256u;
-v876:;
-    u64 v883 = v869 + 2;
-    at(ptr, v13) = v867;
-    at(u64, v13 + 8) = v883;
-    at(u64, v13 + 16) = v868;
-    if (!(v759 > (v868 - v883))) { v895 = v867; v896 = v868; v897 = v883; goto v888; }
-    if (!std_alloc_vec_Vec_grow_amortized_1cf2(v13, v759)) goto v891;
-    v895 = at(ptr, v13); v896 = at(u64, v13 + 16); v897 = at(u64, v13 + 8); goto v888;
-v891:;
+    u64 v882 = v868 + 2;
+    at(ptr, v13) = v866;
+    at(u64, v13 + 8) = v882;
+    at(u64, v13 + 16) = v867;
+    if (!(v758 > (v867 - v882))) { v894 = v866; v895 = v867; v896 = v882; goto v887; }
+    if (!std_alloc_vec_Vec_grow_amortized_1cf2(v13, v758)) goto v890;
+    v894 = at(ptr, v13); v895 = at(u64, v13 + 16); v896 = at(u64, v13 + 8); goto v887;
+v890:;
     __builtin_trap();
     __builtin_trap();
-v888:;
-    u64 v898 = (u64)v895;
+v887:;
+    u64 v897 = (u64)v894;
     memset(v13 + 8, 0, 16u);
-    if (!((((u64)(v895 + (i64)v897)) - ((u64)(v758 + 52))) < v759)) goto v905;
-    if (v759 < 4) { v942 = 0; goto v907; }
-    if ((((v897 - 52u) + v898) - v760) < 32u) { v942 = 0; goto v907; }
-    if (v759 < 16u) { v931 = 0; goto v915; }
-    u64 v917 = v759 & 12u;
-    u64 v918 = v759 & 0xfffffffffffffff0u;
-    v920 = 0;
-v919:;
-    at(u8x16_1, (v895 + (i64)v897) + v920) = at(u8x16_1, (v758 + 52) + v920);
-    u64 v921 = v920 + 16u;
-    if (!(v921 == v918)) { v920 = v921; goto v919; }
-    if (v759 == v918) goto v928;
-    if (v917 == 0) { v942 = v918; goto v907; }
-    v931 = v918;
-v915:;
-    u64 v932 = v759 & 0xfffffffffffffffcu;
-    v934 = v931;
-v933:;
-    at(u8x4_1, (v895 + (i64)v897) + v934) = at(u8x4_1, (v758 + 52) + v934);
-    u64 v935 = v934 + 4;
-    if (!(v935 == v932)) { v934 = v935; goto v933; }
-    if (v759 == v932) goto v928;
-    v942 = v932;
-v907:;
-    v944 = v942;
-v943:;
-    at(u8, (v895 + (i64)v897) + v944) = at(u8, (v758 + 52) + v944);
-    u64 v945 = v944 + 1;
-    if (v945 == v759) goto v928;
-    v944 = v945; goto v943;
-v905:;
-    memmove_any(v895 + (i64)v897, v758 + 52, v759);
-v928:;
-    u64 v950 = v897 + v759;
-    at(ptr, v13) = v895;
-    at(u64, v13 + 8) = v950;
-    at(u64, v13 + 16) = v896;
-    v1128 = v950; v1129 = v896; goto v453;
-v351:;
+    if (!((((u64)(v894 + (i64)v896)) - ((u64)(v757 + 52))) < v758)) goto v904;
+    if (v758 < 4) { v941 = 0; goto v906; }
+    if ((((v896 - 52u) + v897) - v759) < 32u) { v941 = 0; goto v906; }
+    if (v758 < 16u) { v930 = 0; goto v914; }
+    u64 v916 = v758 & 12u;
+    u64 v917 = v758 & 0xfffffffffffffff0u;
+    v919 = 0;
+v918:;
+    at(u8x16_1, (v894 + (i64)v896) + v919) = at(u8x16_1, (v757 + 52) + v919);
+    u64 v920 = v919 + 16u;
+    if (!(v920 == v917)) { v919 = v920; goto v918; }
+    if (v758 == v917) goto v927;
+    if (v916 == 0) { v941 = v917; goto v906; }
+    v930 = v917;
+v914:;
+    u64 v931 = v758 & 0xfffffffffffffffcu;
+    v933 = v930;
+v932:;
+    at(u8x4_1, (v894 + (i64)v896) + v933) = at(u8x4_1, (v757 + 52) + v933);
+    u64 v934 = v933 + 4;
+    if (!(v934 == v931)) { v933 = v934; goto v932; }
+    if (v758 == v931) goto v927;
+    v941 = v931;
+v906:;
+    v943 = v941;
+v942:;
+    at(u8, (v894 + (i64)v896) + v943) = at(u8, (v757 + 52) + v943);
+    u64 v944 = v943 + 1;
+    if (v944 == v758) goto v927;
+    v943 = v944; goto v942;
+v904:;
+    memmove_any(v894 + (i64)v896, v757 + 52, v758);
+v927:;
+    u64 v949 = v896 + v758;
+    at(ptr, v13) = v894;
+    at(u64, v13 + 8) = v949;
+    at(u64, v13 + 16) = v895;
+    v1127 = v949; v1128 = v895; goto v452;
+v350:;
     memset(v5, 0, 1024u);
-    u8 *v951 = at(ptr, v24 + 168);
-    u64 v952 = at(u64, v24 + 176);
-    if (v952 == 0) { v982 = 0; goto v954; }
-    if (at(u8, v951) & 1) { v992 = 0; goto v958; }
-    if (v952 < 64u) { v982 = 0; goto v954; }
-    v962 = 0;
-v961:;
-    if (v962 == 0xffffffffffffffc0u) goto v964;
-    v969 = 0; v971 = (u8x16){0};
-v968:;
-    u8x16 v972 = v971 | ((-(at(u8x16_1, (v951 + (i64)v962) + (i64)v969) & 1)));
-    u64 v970 = v969 + 16u;
-    if (!(v970 == 64u)) { v969 = v970; v971 = v972; goto v968; }
-    if (!(bits_u8x16(v972) == 0)) { v982 = v962; goto v954; }
-v964:;
-    u64 v963 = v962 + 64u;
-    if ((v952 - v963) < 64u) v982 = v963; else { v962 = v963; goto v961; }
-v954:;
-    if (v982 < v952) v985 = v982; else { v992 = v952; goto v958; }
-v984:;
-    if (at(u8, v951 + v985) & 1) { v992 = v985; goto v958; }
-    u64 v986 = v985 + 1;
-    if (v986 == v952) v992 = v952; else { v985 = v986; goto v984; }
-v958:;
-    u16 v993 = (u16)v992;
-    u16 v996 = at(u16, at(ptr, v24 + 8) + 64);
-    if (!((v340 - v338) < 4)) { v1007 = v335; v1008 = v340; v1009 = v338; goto v1000; }
-    if (!std_alloc_vec_Vec_grow_amortized_1cf2(v13, 4)) goto v1003;
-    v1007 = at(ptr, v13); v1008 = at(u64, v13 + 16); v1009 = at(u64, v13 + 8); goto v1000;
-v1003:;
+    u8 *v950 = at(ptr, v24 + 168);
+    u64 v951 = at(u64, v24 + 176);
+    if (v951 == 0) { v981 = 0; goto v953; }
+    if (at(u8, v950) & 1) { v991 = 0; goto v957; }
+    if (v951 < 64u) { v981 = 0; goto v953; }
+    v961 = 0;
+v960:;
+    if (v961 == 0xffffffffffffffc0u) goto v963;
+    v968 = 0; v970 = (u8x16){0};
+v967:;
+    u8x16 v971 = v970 | ((-(at(u8x16_1, (v950 + (i64)v961) + (i64)v968) & 1)));
+    u64 v969 = v968 + 16u;
+    if (!(v969 == 64u)) { v968 = v969; v970 = v971; goto v967; }
+    if (!(bits_u8x16(v971) == 0)) { v981 = v961; goto v953; }
+v963:;
+    u64 v962 = v961 + 64u;
+    if ((v951 - v962) < 64u) v981 = v962; else { v961 = v962; goto v960; }
+v953:;
+    if (v981 < v951) v984 = v981; else { v991 = v951; goto v957; }
+v983:;
+    if (at(u8, v950 + v984) & 1) { v991 = v984; goto v957; }
+    u64 v985 = v984 + 1;
+    if (v985 == v951) v991 = v951; else { v984 = v985; goto v983; }
+v957:;
+    u16 v992 = (u16)v991;
+    u16 v995 = at(u16, at(ptr, v24 + 8) + 64);
+    if (!((v339 - v337) < 4)) { v1006 = v334; v1007 = v339; v1008 = v337; goto v999; }
+    if (!std_alloc_vec_Vec_grow_amortized_1cf2(v13, 4)) goto v1002;
+    v1006 = at(ptr, v13); v1007 = at(u64, v13 + 16); v1008 = at(u64, v13 + 8); goto v999;
+v1002:;
     __builtin_trap();
     __builtin_trap();
-v1000:;
-    at(u32_1, v1007 + (i64)v1009) = 0;
-    u64 v1011 = v1009 + 4;
-    at(ptr, v13) = v1007;
-    at(u64, v13 + 8) = v1011;
-    at(u64, v13 + 16) = v1008;
-    if (v996 == 0) { v1051 = v1011; v1052 = v1008; goto v1013; }
-    v1015 = v1007; v1018 = v1011; v1020 = v1008; v1022 = 0; v1024 = v993; v1026 = 0;
-v1014:;
-    u16 v1029 = umin16((u16)(v996 - v1026), 256u);
-    u16 v1027 = (u16)(v1029 + v1026);
-    u32_u16 v1030 = font_write_made_loca_gather_offsets(v24, v1026, v1027, v1022, v1024, v5);
-    u64 v1032 = (u64)((u16)((u32)v1029 << 2));
-    if (!((v1020 - v1018) < v1032)) { v1016 = v1015; v1021 = v1020; v1043 = v1018; goto v1036; }
-    if (!std_alloc_vec_Vec_grow_amortized_1cf2(v13, v1032)) goto v1039;
-    v1016 = at(ptr, v13); v1021 = at(u64, v13 + 16); v1043 = at(u64, v13 + 8); goto v1036;
-v1039:;
-    __builtin_trap();
-    __builtin_trap();
-v1036:;
-    if (!((((u64)(v1016 + (i64)v1043)) - v295) < v1032)) goto v1049;
-    memcpy_any(v1016 + (i64)v1043, v5, v1032);
-    goto v1017;
-v1049:;
-    memmove_any(v1016 + (i64)v1043, v5, v1032);
-v1017:;
-    u64 v1019 = v1043 + v1032;
-    at(ptr, v13) = v1016;
-    at(u64, v13 + 8) = v1019;
-    at(u64, v13 + 16) = v1021;
-    if (v1027 < v996) { v1015 = v1016; v1018 = v1019; v1020 = v1021; v1022 = v1030._0; v1024 = v1030._1; v1026 = v1027; goto v1014; }
-    v1051 = v1019; v1052 = v1021;
+v999:;
+    at(u32_1, v1006 + (i64)v1008) = 0;
+    u64 v1010 = v1008 + 4;
+    at(ptr, v13) = v1006;
+    at(u64, v13 + 8) = v1010;
+    at(u64, v13 + 16) = v1007;
+    if (v995 == 0) { v1050 = v1010; v1051 = v1007; goto v1012; }
+    v1014 = v1006; v1017 = v1010; v1019 = v1007; v1021 = 0; v1023 = v992; v1025 = 0;
 v1013:;
-    v1128 = v1051; v1129 = v1052;
-v453:;
-    u64 v1136 = (u64)(((u32)0 - at(u32, v17 + (i64)(v342 * 12u) + 8)) & 3);
-    if (!((v1129 - v1128) < v1136)) { v341 = v1129; v1145 = v1128; goto v337; }
-    if (!std_alloc_vec_Vec_grow_amortized_1cf2(v13, v1136)) goto v1142;
-    v341 = at(u64, v13 + 16); v1145 = at(u64, v13 + 8); goto v337;
-v1142:;
+    u16 v1028 = umin16((u16)(v995 - v1025), 256u);
+    u16 v1026 = (u16)(v1028 + v1025);
+    u32_u16 v1029 = font_write_made_loca_gather_offsets(v24, v1025, v1026, v1021, v1023, v5);
+    u64 v1031 = (u64)((u16)((u32)v1028 << 2));
+    if (!((v1019 - v1017) < v1031)) { v1015 = v1014; v1020 = v1019; v1042 = v1017; goto v1035; }
+    if (!std_alloc_vec_Vec_grow_amortized_1cf2(v13, v1031)) goto v1038;
+    v1015 = at(ptr, v13); v1020 = at(u64, v13 + 16); v1042 = at(u64, v13 + 8); goto v1035;
+v1038:;
     __builtin_trap();
     __builtin_trap();
-v337:;
-    u8 *v336 = at(ptr, v13);
-    memset_any(v336 + (i64)v1145, 0, v1136);
-    u64 v339 = v1145 + v1136;
-    at(ptr, v13) = v336;
-    at(u64, v13 + 8) = v339;
-    at(u64, v13 + 16) = v341;
-    u64 v343 = v342 + 1;
-    if (!(v343 == 29u)) { v335 = v336; v338 = v339; v340 = v341; v342 = v343; goto v334; }
-    u64 v1153 = (u64)v336;
-    memcpy(v30, v24, 320u);
-    font_subset_kind_source_CutOfKind_drop_3cda(v30);
-    if (v64 ? 1 : (v62 == 0)) { v1162 = 0; v1163 = v1153; v1164 = v339; v1165 = v341; goto v40; }
-    sys_rattle_dealloc(v58);
-    v1162 = 0; v1163 = v1153; v1164 = v339; v1165 = v341; goto v40;
-v128:;
-    v1157 = 0; v1158 = 0; goto v1149;
-v114:;
-    v1157 = v111; v1158 = 1;
-v1149:;
+v1035:;
+    if (!((((u64)(v1015 + (i64)v1042)) - v294) < v1031)) goto v1048;
+    memcpy_any(v1015 + (i64)v1042, v5, v1031);
+    goto v1016;
+v1048:;
+    memmove_any(v1015 + (i64)v1042, v5, v1031);
+v1016:;
+    u64 v1018 = v1042 + v1031;
+    at(ptr, v13) = v1015;
+    at(u64, v13 + 8) = v1018;
+    at(u64, v13 + 16) = v1020;
+    if (v1026 < v995) { v1014 = v1015; v1017 = v1018; v1019 = v1020; v1021 = v1029._0; v1023 = v1029._1; v1025 = v1026; goto v1013; }
+    v1050 = v1018; v1051 = v1020;
+v1012:;
+    v1127 = v1050; v1128 = v1051;
+v452:;
+    u64 v1135 = (u64)(((u32)0 - at(u32, v17 + (i64)(v341 * 12u) + 8)) & 3);
+    if (!((v1128 - v1127) < v1135)) { v340 = v1128; v1144 = v1127; goto v336; }
+    if (!std_alloc_vec_Vec_grow_amortized_1cf2(v13, v1135)) goto v1141;
+    v340 = at(u64, v13 + 16); v1144 = at(u64, v13 + 8); goto v336;
+v1141:;
+    __builtin_trap();
+    __builtin_trap();
+v336:;
+    u8 *v335 = at(ptr, v13);
+    memset_any(v335 + (i64)v1144, 0, v1135);
+    u64 v338 = v1144 + v1135;
+    at(ptr, v13) = v335;
+    at(u64, v13 + 8) = v338;
+    at(u64, v13 + 16) = v340;
+    u64 v342 = v341 + 1;
+    if (!(v342 == 29u)) { v334 = v335; v337 = v338; v339 = v340; v341 = v342; goto v333; }
+    v1150 = 0; v1151 = (u64)v335; v1152 = v338; v1153 = v340; goto v1148;
+v127:;
+    v1150 = 1; v1151 = 0; v1152 = 0; v1153 = 0;
+v1148:;
     memcpy(v29, v24, 320u);
     font_subset_kind_source_CutOfKind_drop_3cda(v29);
-    if (v64 ? 1 : (v62 == 0)) { v1162 = 1; v1163 = v1158; v1164 = v1157; v1165 = 0; goto v40; }
-    sys_rattle_dealloc(v58);
-    v1162 = 1; v1163 = v1158; v1164 = v1157; v1165 = 0; goto v40;
+    if (v63 ? 1 : (v61 == 0)) { v1160 = v1150; v1161 = v1151; v1162 = v1152; v1163 = v1153; goto v39; }
+    sys_rattle_dealloc(v57);
+    v1160 = v1150; v1161 = v1151; v1162 = v1152; v1163 = v1153; goto v39;
+v74:;
 v75:;
-v76:;
-    if (v64 ? 1 : (v62 == 0)) { v1162 = 1; v1163 = 0; v1164 = 0; v1165 = 0; goto v40; }
-    sys_rattle_dealloc(v58);
-    v1162 = 1; v1163 = 0; v1164 = 0; v1165 = 0; goto v40;
-v54:;
-    u8 v84 = at(u8, v23 + 16);
-    u8 *v86 = at(ptr, v23 + 24);
-    u64 v88 = at(u64, v23 + 40);
-    u8 v90 = at(u8, v23 + 56);
-    u8 *v92 = at(ptr, v23 + 64);
-    u64 v94 = at(u64, v23 + 80);
-    if (at(u64, v23 + 136) == 0) goto v98;
+    if (v63 ? 1 : (v61 == 0)) { v1160 = 1; v1161 = 0; v1162 = 0; v1163 = 0; goto v39; }
+    sys_rattle_dealloc(v57);
+    v1160 = 1; v1161 = 0; v1162 = 0; v1163 = 0; goto v39;
+v53:;
+    u8 v83 = at(u8, v23 + 16);
+    u8 *v85 = at(ptr, v23 + 24);
+    u64 v87 = at(u64, v23 + 40);
+    u8 v89 = at(u8, v23 + 56);
+    u8 *v91 = at(ptr, v23 + 64);
+    u64 v93 = at(u64, v23 + 80);
+    if (at(u64, v23 + 136) == 0) goto v97;
     sys_rattle_dealloc(at(ptr, v23 + 120));
-v98:;
-    if ((v84 != 1) ? 1 : (v88 == 0)) goto v104;
-    sys_rattle_dealloc(v86);
-v104:;
-    if ((v90 != 1) ? 1 : (v94 == 0)) { v1162 = 1; v1163 = 0; v1164 = 0; v1165 = 0; goto v40; }
-    sys_rattle_dealloc(v92);
-    v1162 = 1; v1163 = 0; v1164 = 0; v1165 = 0;
-v40:;
-    at(u64_1, v0) = v1162;
-    at(u64_1, v0 + 8) = v1163;
-    at(u64_1, v0 + 16) = v1164;
-    at(u64_1, v0 + 24) = v1165;
+v97:;
+    if ((v83 != 1) ? 1 : (v87 == 0)) goto v103;
+    sys_rattle_dealloc(v85);
+v103:;
+    if ((v89 != 1) ? 1 : (v93 == 0)) { v1160 = 1; v1161 = 0; v1162 = 0; v1163 = 0; goto v39; }
+    sys_rattle_dealloc(v91);
+    v1160 = 1; v1161 = 0; v1162 = 0; v1163 = 0;
+v39:;
+    at(u64_1, v0) = v1160;
+    at(u64_1, v0 + 8) = v1161;
+    at(u64_1, v0 + 16) = v1162;
+    at(u64_1, v0 + 24) = v1163;
     return;
 }
 
 void font_subset_cut_font_cut_of_kind_into(u8 *v0, u8 *v1, u8 *v2, u8 *v3, u8 *v4) {
-    _Alignas(8) u8 v6[96], v7[96], v8[96], v9[96], v13[96], v14[96], v15[96], v19[96], v20[48], v22[24], v27[96], v30[24], v31[24], v32[384], v33[384], v34[328], v35[200], v36[144], v37[24], v38[56], v39[152], v40[104], v41[16], v44[144], v45[320], v47[24], v48[40], v49[24], v51[320], v52[320];
+    _Alignas(8) u8 v6[96], v7[96], v8[96], v9[96], v13[96], v14[96], v15[96], v19[96], v20[48], v22[24], v27[96], v30[24], v31[24], v32[384], v33[384], v34[328], v35[200], v36[144], v37[24], v38[56], v39[152], v40[104], v41[16], v44[144], v45[320], v47[24], v48[40], v49[24], v51[320];
     _Alignas(4) u8 v10[4], v16[16], v23[64], v24[20], v25[32], v26[4];
-    u8 v11[1024], v17[1024], v28[12], v46[111], v50[327], *v321, v621, v623, *v723, *v851, v1113, v1197;
-    u16 v180, v181, v182, v676, v1027, v1029;
-    u64 v198, v229, v238, v240, v252, v291, v383, v1122, v1157, v1168, v1171, v1179, v1181, v1191, v436, v471, v482, v485, v493, v495, v506, v520, v542, v543, v545, v580, v591, v594, v602, v604, v615, v641, v648, v661, v664, v671, v679, v718, v719, v722, v742, v749, v762, v765, v680, v779, v805, v822, v852, v859, v895, v906, v909, v917, v919, v930, v947, v954, v967, v970, v977, v983, v1004, v1016, v1037, v1072, v1083, v1086, v1094, v1096, v1107, v1208, v1234, v1252, v1253;
-    u32 v288, v513, v517, v514, v1024;
-    u8x16 v650, v751, v956;
+    u8 v11[1024], v17[1024], v28[12], v46[111], v50[327], *v320, v620, v622, *v722, *v850, v1112, v1196;
+    u16 v179, v180, v181, v675, v1026, v1028;
+    u64 v197, v228, v237, v239, v251, v290, v382, v1121, v1156, v1167, v1170, v1178, v1180, v1190, v435, v470, v481, v484, v492, v494, v505, v519, v541, v542, v544, v579, v590, v593, v601, v603, v614, v640, v647, v660, v663, v670, v678, v717, v718, v721, v741, v748, v761, v764, v679, v778, v804, v821, v851, v858, v894, v905, v908, v916, v918, v929, v946, v953, v966, v969, v976, v982, v1003, v1015, v1036, v1071, v1082, v1085, v1093, v1095, v1106, v1207, v1233, v1242, v1243, v1244;
+    u32 v287, v512, v516, v513, v1023;
+    u8x16 v649, v750, v955;
     u64 v12 = (u64)v11;
     u64 v18 = (u64)v17;
     u64 v21 = (u64)v20;
@@ -2339,141 +2601,140 @@ void font_subset_cut_font_cut_of_kind_into(u8 *v0, u8 *v1, u8 *v2, u8 *v3, u8 *v
     memset(v49, 0, 24u);
     memset(v50, 0, 327u);
     memset(v51, 0, 320u);
-    memset(v52, 0, 320u);
-    u8 *v54 = at(ptr, v1 + 8);
+    u8 *v53 = at(ptr, v1 + 8);
     memset(v39, 0, 152u);
     memset(v38, 0, 56u);
-    font_map_chart_Chart_of_3518(v38, v54 + 72);
-    if (!(at(u8, v38) == 0)) goto v59;
-    u64 v62 = at(u64, v38 + 48);
-    u64 v66 = at(u64, v38 + 8);
-    u64 v68 = (u64)at(u8, v38 + 16);
+    font_map_chart_Chart_of_3518(v38, v53 + 72);
+    if (!(at(u8, v38) == 0)) goto v58;
+    u64 v61 = at(u64, v38 + 48);
+    u64 v65 = at(u64, v38 + 8);
+    u64 v67 = (u64)at(u8, v38 + 16);
     memcpy(v40 + 24, v38 + 24, 24u);
-    at(ptr, v40) = v54;
-    at(u64, v40 + 8) = v66;
-    at(u64, v40 + 16) = v68;
-    at(u64, v40 + 48) = v62;
+    at(ptr, v40) = v53;
+    at(u64, v40 + 8) = v65;
+    at(u64, v40 + 16) = v67;
+    at(u64, v40 + 48) = v61;
     memset(v40 + 56, 0, 48u);
     font_subset_selection_Seeds_in_chart(v39, v40, 1, v2);
-    u8 v74 = at(u8, v39);
+    u8 v73 = at(u8, v39);
     memcpy(v46 + 7, v39 + 8, 104u);
-    u8 v78 = at(u8, v39 + 112);
-    u64 v80 = at(u64, v39 + 120);
+    u8 v77 = at(u8, v39 + 112);
+    u64 v79 = at(u64, v39 + 120);
     memcpy(v47, v39 + 128, 24u);
-    if (!(v74 == 0)) goto v60;
-    u64 v85 = (u64)v78;
+    if (!(v73 == 0)) goto v59;
+    u64 v84 = (u64)v77;
     memcpy(v44, v46 + 7, 104u);
-    at(u64, v44 + 104) = v85;
-    at(u64, v44 + 112) = v80;
+    at(u64, v44 + 104) = v84;
+    at(u64, v44 + 112) = v79;
     memcpy(v44 + 120, v47, 24u);
     at(u64, v49) = (u64)v42;
     memcpy(v49 + 8, v41, 16u);
     font_subset_font_to_cut_FontToCut_numbers_beside_19bd(v48, v1, v44, v49);
-    if (!(at(u8, v48) == 0)) goto v93;
-    u8 v97 = at(u8, v48 + 8);
-    u8 *v99 = at(ptr, v48 + 16);
-    u64 v103 = at(u64, v48 + 32);
-    flag v105 = v97 != 1;
-    u64 v107 = v105 ? 0 : at(u64, v48 + 24);
+    if (!(at(u8, v48) == 0)) goto v92;
+    u8 v96 = at(u8, v48 + 8);
+    u8 *v98 = at(ptr, v48 + 16);
+    u64 v102 = at(u64, v48 + 32);
+    flag v104 = v96 != 1;
+    u64 v106 = v104 ? 0 : at(u64, v48 + 24);
     memset(v34, 0, 328u);
     memset(v35, 0, 200u);
     memcpy(v36, v46 + 7, 104u);
-    at(u64, v36 + 104) = v85;
-    at(u64, v36 + 112) = v80;
+    at(u64, v36 + 104) = v84;
+    at(u64, v36 + 112) = v79;
     memcpy(v36 + 120, v47, 24u);
-    at(u64, v37) = (u64)v97;
-    at(ptr, v37 + 8) = v105 ? ((u8 *)0) : v99;
-    at(u64, v37 + 16) = v107;
+    at(u64, v37) = (u64)v96;
+    at(ptr, v37 + 8) = v104 ? ((u8 *)0) : v98;
+    at(u64, v37 + 16) = v106;
     font_subset_selection_Selection_of_seeds_4cdf(v35, v1, v36, v37);
-    if (!(at(u8, v35) == 0)) goto v116;
+    if (!(at(u8, v35) == 0)) goto v115;
     font_subset_kind_source_CutOfKind_of_87a4(v34, v35 + 8);
-    u8 v119 = at(u8, v34);
+    u8 v118 = at(u8, v34);
     memcpy(v50 + 7, v34 + 8, 320u);
-    if (!(v119 == 0)) goto v117;
+    if (!(v118 == 0)) goto v116;
     memcpy(v45, v50 + 7, 320u);
     memset(v32, 0, 384u);
     memset(v30, 0, 24u);
     font_write_size_file_size_22d8(v30, v45);
-    u64 v154 = at(u64, v30 + 16);
-    if (!(v154 > 134217728u)) goto v157;
-    v1252 = 1; v1253 = v154; goto v1241;
-v157:;
-    u64 v158 = at(u64, v30);
+    u64 v153 = at(u64, v30 + 16);
+    if (!(v153 > 134217728u)) goto v156;
+    v1242 = 1; v1243 = 1; v1244 = v153; goto v1240;
+v156:;
+    u64 v157 = at(u64, v30);
     memcpy(v31 + 8, v30 + 8, 16u);
-    at(u64, v31) = v158;
+    at(u64, v31) = v157;
     font_write_plan_plan_of(v32, v45, 1, v31);
-    u64 v162 = at(u64, v31 + 16);
-    u64 v163 = at(u64, v32);
+    u64 v161 = at(u64, v31 + 16);
+    u64 v162 = at(u64, v32);
     memcpy(v33 + 8, v32 + 8, 376u);
-    at(u64, v33) = v163;
-    u16 v167 = at(u16, v33 + 352);
-    if (!(((u16)(v167 + 65535u)) < 4095u)) { v180 = 0; v181 = 0; v182 = 0; goto v171; }
-    u16 v173 = (u16)(ctlz16(v167) ^ 15u);
-    u16 v174 = (u16)((u32)16u << (v173 & 31));
-    v180 = bswap16((u16)(((u16)((u32)v167 << 4)) - v174)); v181 = (u16)((u32)v173 << 8); v182 = bswap16(v174);
-v171:;
+    at(u64, v33) = v162;
+    u16 v166 = at(u16, v33 + 352);
+    if (!(((u16)(v166 + 65535u)) < 4095u)) { v179 = 0; v180 = 0; v181 = 0; goto v170; }
+    u16 v172 = (u16)(ctlz16(v166) ^ 15u);
+    u16 v173 = (u16)((u32)16u << (v172 & 31));
+    v179 = bswap16((u16)(((u16)((u32)v166 << 4)) - v173)); v180 = (u16)((u32)v172 << 8); v181 = bswap16(v173);
+v170:;
     at(u8, v28) = 0;
     at(u8, v28 + 1) = 1;
     at(u8, v28 + 2) = 0;
     at(u8, v28 + 3) = 0;
-    at(u16_1, v28 + 4) = bswap16(v167);
-    at(u16_1, v28 + 6) = v182;
-    at(u16_1, v28 + 8) = v181;
-    at(u16_1, v28 + 10) = v180;
+    at(u16_1, v28 + 4) = bswap16(v166);
+    at(u16_1, v28 + 6) = v181;
+    at(u16_1, v28 + 8) = v180;
+    at(u16_1, v28 + 10) = v179;
     at(u8, v4 + 145) = 0;
-    v198 = 0;
-v197:;
-    u64 v202 = (u64)12u - v198;
+    v197 = 0;
+v196:;
+    u64 v201 = (u64)12u - v197;
     memset(v27, 0, 96u);
-    u64 v203 = at(u64, v4 + 128);
-    u64 v204 = at(u64, v4 + 120);
-    if (!(v202 < (v203 - v204))) goto v208;
-    u64 v209 = v204 + v202;
-    u8 *v210 = at(ptr, v4 + 112);
-    u64 v211 = (u64)v210;
-    if (!((((u64)(v210 + (i64)v204)) - ((u64)(v28 + (i64)v198))) < v202)) goto v218;
-    if (v198 > 8) { v238 = 0; goto v220; }
-    if (((v204 + v211) - (v198 + v29)) < 32u) { v238 = 0; goto v220; }
-    u64 v227 = v202 & 12u;
-    v229 = 0;
-v228:;
-    at(u8x4_1, (v210 + (i64)v204) + v229) = at(u8x4_1, (v28 + (i64)v198) + v229);
-    u64 v230 = v229 + 4;
-    if (!(v230 == v227)) { v229 = v230; goto v228; }
-    if (v202 == v227) goto v237;
-    v238 = v227;
-v220:;
-    v240 = v238;
-v239:;
-    at(u8, (v210 + (i64)v204) + v240) = at(u8, (v28 + (i64)v198) + v240);
-    u64 v241 = v240 + 1;
-    if (v241 == v202) goto v237;
-    v240 = v241; goto v239;
-v218:;
-    memmove_any(v210 + (i64)v204, v28 + (i64)v198, v202);
-v237:;
-    at(ptr, v4 + 112) = v210;
-    at(u64, v4 + 120) = v209;
-    at(u64, v4 + 128) = v203;
-    v252 = v202; goto v200;
-v208:;
-    std_io_buffered_BufWriter_write_cold(v27, v4, v28 + (i64)v198, v202);
-    u64 v247 = at(u64, v27 + 8);
-    if (!((at(u8, v27) != 0) ? 1 : (v247 == 0))) { v252 = v247; goto v200; }
+    u64 v202 = at(u64, v4 + 128);
+    u64 v203 = at(u64, v4 + 120);
+    if (!(v201 < (v202 - v203))) goto v207;
+    u64 v208 = v203 + v201;
+    u8 *v209 = at(ptr, v4 + 112);
+    u64 v210 = (u64)v209;
+    if (!((((u64)(v209 + (i64)v203)) - ((u64)(v28 + (i64)v197))) < v201)) goto v217;
+    if (v197 > 8) { v237 = 0; goto v219; }
+    if (((v203 + v210) - (v197 + v29)) < 32u) { v237 = 0; goto v219; }
+    u64 v226 = v201 & 12u;
+    v228 = 0;
+v227:;
+    at(u8x4_1, (v209 + (i64)v203) + v228) = at(u8x4_1, (v28 + (i64)v197) + v228);
+    u64 v229 = v228 + 4;
+    if (!(v229 == v226)) { v228 = v229; goto v227; }
+    if (v201 == v226) goto v236;
+    v237 = v226;
+v219:;
+    v239 = v237;
+v238:;
+    at(u8, (v209 + (i64)v203) + v239) = at(u8, (v28 + (i64)v197) + v239);
+    u64 v240 = v239 + 1;
+    if (v240 == v201) goto v236;
+    v239 = v240; goto v238;
+v217:;
+    memmove_any(v209 + (i64)v203, v28 + (i64)v197, v201);
+v236:;
+    at(ptr, v4 + 112) = v209;
+    at(u64, v4 + 120) = v208;
+    at(u64, v4 + 128) = v202;
+    v251 = v201; goto v199;
+v207:;
+    std_io_buffered_BufWriter_write_cold(v27, v4, v28 + (i64)v197, v201);
+    u64 v246 = at(u64, v27 + 8);
+    if (!((at(u8, v27) != 0) ? 1 : (v246 == 0))) { v251 = v246; goto v199; }
     at(u8, v4 + 144) = 1;
-    goto v325;
-v200:;
-    u64 v199 = v252 + v198;
-    at(u64, v4 + 136) = at(u64, v4 + 136) + v252;
-    if (v199 < 12u) { v198 = v199; goto v197; }
-    v288 = (((u32)v167) << 4) | 12u; v291 = 0;
-v287:;
-    u64 v293 = v291 * 12u;
-    u32 v297 = at(u32, (v33 + 4) + v293 + 4);
-    u32 v299 = at(u32, (v33 + 4) + v293 + 8);
-    if (!(at(u8, (v33 + 4) + v293) & 1)) goto v302;
-    u64 v305 = at(u64, (u8 *)table_faed1f12 + (v291 << 3));
-    if (!(v305 < 16u)) goto v308;
+    goto v324;
+v199:;
+    u64 v198 = v251 + v197;
+    at(u64, v4 + 136) = at(u64, v4 + 136) + v251;
+    if (v198 < 12u) { v197 = v198; goto v196; }
+    v287 = (((u32)v166) << 4) | 12u; v290 = 0;
+v286:;
+    u64 v292 = v290 * 12u;
+    u32 v296 = at(u32, (v33 + 4) + v292 + 4);
+    u32 v298 = at(u32, (v33 + 4) + v292 + 8);
+    if (!(at(u8, (v33 + 4) + v292) & 1)) goto v301;
+    u64 v304 = at(u64, (u8 *)table_faed1f12 + (v290 << 3));
+    if (!(v304 < 16u)) goto v307;
     at(u32, v23) = 841962319u;
     at(u32, v23 + 4) = 1885433187u;
     at(u32, v23 + 8) = 544503395u;
@@ -2490,16 +2751,16 @@ v287:;
     at(u32, v23 + 52) = 1885696624u;
     at(u32, v23 + 56) = 1634035830u;
     at(u32, v23 + 60) = 2020896118u;
-    v321 = v23 + (v305 << 2); goto v311;
-v308:;
-    if (!(v305 < 21u)) goto v314;
+    v320 = v23 + (v304 << 2); goto v310;
+v307:;
+    if (!(v304 < 21u)) goto v313;
     at(u32, v24) = 1163084098u;
     at(u32, v24 + 4) = 1178944583u;
     at(u32, v24 + 8) = 1397706823u;
     at(u32, v24 + 12) = 1112888135u;
     at(u32, v24 + 16) = 1852990827u;
-    v321 = v24 + (i64)(v305 << 2) - 64; goto v311;
-v314:;
+    v320 = v24 + (i64)(v304 << 2) - 64; goto v310;
+v313:;
     at(u32, v25) = 1380013640u;
     at(u32, v25 + 4) = 1380013645u;
     at(u32, v25 + 8) = 1413567571u;
@@ -2508,881 +2769,872 @@ v314:;
     at(u32, v25 + 20) = 1918989923u;
     at(u32, v25 + 24) = 1918989926u;
     at(u32, v25 + 28) = 1918989927u;
-    v321 = v25 + (i64)(v305 << 2) - 84;
-v311:;
-    at(u32, v26) = at(u32_1, v321);
-    if (font_write_writer_send_entry_f0d8(v26, v299, v288, v297, v4) & 1) goto v325;
-    goto v290;
-v302:;
-v290:;
-    u64 v292 = v291 + 1;
-    if (!(v292 == 29u)) { v288 = (v297 + v288) + (((u32)0 - v297) & 3); v291 = v292; goto v287; }
-    v383 = 0;
-v382:;
-    u64 v388 = at(u64, (u8 *)table_faed1f12 + (v383 << 3));
+    v320 = v25 + (i64)(v304 << 2) - 84;
+v310:;
+    at(u32, v26) = at(u32_1, v320);
+    if (font_write_writer_send_entry_f0d8(v26, v298, v287, v296, v4) & 1) goto v324;
+    goto v289;
+v301:;
+v289:;
+    u64 v291 = v290 + 1;
+    if (!(v291 == 29u)) { v287 = (v296 + v287) + (((u32)0 - v296) & 3); v290 = v291; goto v286; }
+    v382 = 0;
+v381:;
+    u64 v387 = at(u64, (u8 *)table_faed1f12 + (v382 << 3));
     memset(v22, 0, 24u);
-    switch (v388) {
-    case 1: goto v390;
-    case 5: goto v391;
-    case 6: goto v392;
-    case 9: goto v393;
-    default: goto v389;
+    switch (v387) {
+    case 1: goto v389;
+    case 5: goto v390;
+    case 6: goto v391;
+    case 9: goto v392;
+    default: goto v388;
     }
-v389:;
-    font_subset_kind_source_CutOfKindSource_copied(v22, v45, v388);
-    if (!(at(u8, v22) == 1)) goto v777;
-    u8 *v1117 = at(ptr, v22 + 8);
-    u64 v1118 = (u64)v1117;
-    u64 v1119 = at(u64, v22 + 16);
+v388:;
+    font_subset_kind_source_CutOfKindSource_copied(v22, v45, v387);
+    if (!(at(u8, v22) == 1)) goto v776;
+    u8 *v1116 = at(ptr, v22 + 8);
+    u64 v1117 = (u64)v1116;
+    u64 v1118 = at(u64, v22 + 16);
     at(u8, v4 + 145) = 0;
-    if (v1119 == 0) goto v777;
-    v1122 = 0;
-v1121:;
-    u64 v1126 = v1119 - v1122;
+    if (v1118 == 0) goto v776;
+    v1121 = 0;
+v1120:;
+    u64 v1125 = v1118 - v1121;
     memset(v7, 0, 96u);
-    u64 v1127 = at(u64, v4 + 128);
-    u64 v1128 = at(u64, v4 + 120);
-    if (!(v1126 < (v1127 - v1128))) goto v1132;
-    u64 v1133 = v1128 + v1126;
-    u8 *v1134 = at(ptr, v4 + 112);
-    u64 v1135 = (u64)v1134;
+    u64 v1126 = at(u64, v4 + 128);
+    u64 v1127 = at(u64, v4 + 120);
+    if (!(v1125 < (v1126 - v1127))) goto v1131;
+    u64 v1132 = v1127 + v1125;
+    u8 *v1133 = at(ptr, v4 + 112);
+    u64 v1134 = (u64)v1133;
     memset(v4 + 120, 0, 16u);
-    if (!((((u64)(v1134 + (i64)v1128)) - ((u64)(v1117 + (i64)v1122))) < v1126)) goto v1142;
-    if (v1126 < 4) { v1179 = 0; goto v1144; }
-    if (((v1128 + v1135) - (v1122 + v1118)) < 32u) { v1179 = 0; goto v1144; }
-    if (v1126 < 16u) { v1168 = 0; goto v1152; }
-    u64 v1154 = v1126 & 12u;
-    u64 v1155 = v1126 & 0xfffffffffffffff0u;
-    v1157 = 0;
-v1156:;
-    at(u8x16_1, (v1134 + (i64)v1128) + v1157) = at(u8x16_1, (v1117 + (i64)v1122) + v1157);
-    u64 v1158 = v1157 + 16u;
-    if (!(v1158 == v1155)) { v1157 = v1158; goto v1156; }
-    if (v1126 == v1155) goto v1165;
-    if (v1154 == 0) { v1179 = v1155; goto v1144; }
-    v1168 = v1155;
-v1152:;
-    u64 v1169 = v1126 & 0xfffffffffffffffcu;
-    v1171 = v1168;
-v1170:;
-    at(u8x4_1, (v1134 + (i64)v1128) + v1171) = at(u8x4_1, (v1117 + (i64)v1122) + v1171);
-    u64 v1172 = v1171 + 4;
-    if (!(v1172 == v1169)) { v1171 = v1172; goto v1170; }
-    if (v1126 == v1169) goto v1165;
-    v1179 = v1169;
-v1144:;
-    v1181 = v1179;
-v1180:;
-    at(u8, (v1134 + (i64)v1128) + v1181) = at(u8, (v1117 + (i64)v1122) + v1181);
-    u64 v1182 = v1181 + 1;
-    if (v1182 == v1126) goto v1165;
-    v1181 = v1182; goto v1180;
-v1142:;
-    memmove_any(v1134 + (i64)v1128, v1117 + (i64)v1122, v1126);
-v1165:;
-    at(ptr, v4 + 112) = v1134;
-    at(u64, v4 + 120) = v1133;
-    at(u64, v4 + 128) = v1127;
-    v1191 = v1126; goto v1187;
-v1132:;
-    std_io_buffered_BufWriter_write_cold(v7, v4, v1117 + (i64)v1122, v1126);
-    if (at(u8, v7) == 0) v1191 = at(u64, v7 + 8); else goto v804;
-v1187:;
-    if (v1191 == 0) goto v804;
-    u64 v1123 = v1191 + v1122;
-    at(u64, v4 + 136) = at(u64, v4 + 136) + v1191;
-    if (v1123 < v1119) { v1122 = v1123; goto v1121; }
-    goto v777;
-v390:;
-    u32 v395 = at(u32, v33 + 360);
-    u32 v398 = bswap32((v395 * 12u) + 16u);
-    u8 v399 = (u8)v398;
-    u8 v401 = (u8)(v398 >> 8);
-    u8 v403 = (u8)(v398 >> 16u);
-    u8 v405 = (u8)(v398 >> 24u);
-    u32 v406 = bswap32(v395);
-    u8 v407 = (u8)v406;
-    u8 v409 = (u8)(v406 >> 8);
-    u8 v411 = (u8)(v406 >> 16u);
-    u8 v413 = (u8)(v406 >> 24u);
-    flag v414 = at(u8, v33) == 0;
-    u64 v434 = v414 ? 28u : 36u;
+    if (!((((u64)(v1133 + (i64)v1127)) - ((u64)(v1116 + (i64)v1121))) < v1125)) goto v1141;
+    if (v1125 < 4) { v1178 = 0; goto v1143; }
+    if (((v1127 + v1134) - (v1121 + v1117)) < 32u) { v1178 = 0; goto v1143; }
+    if (v1125 < 16u) { v1167 = 0; goto v1151; }
+    u64 v1153 = v1125 & 12u;
+    u64 v1154 = v1125 & 0xfffffffffffffff0u;
+    v1156 = 0;
+v1155:;
+    at(u8x16_1, (v1133 + (i64)v1127) + v1156) = at(u8x16_1, (v1116 + (i64)v1121) + v1156);
+    u64 v1157 = v1156 + 16u;
+    if (!(v1157 == v1154)) { v1156 = v1157; goto v1155; }
+    if (v1125 == v1154) goto v1164;
+    if (v1153 == 0) { v1178 = v1154; goto v1143; }
+    v1167 = v1154;
+v1151:;
+    u64 v1168 = v1125 & 0xfffffffffffffffcu;
+    v1170 = v1167;
+v1169:;
+    at(u8x4_1, (v1133 + (i64)v1127) + v1170) = at(u8x4_1, (v1116 + (i64)v1121) + v1170);
+    u64 v1171 = v1170 + 4;
+    if (!(v1171 == v1168)) { v1170 = v1171; goto v1169; }
+    if (v1125 == v1168) goto v1164;
+    v1178 = v1168;
+v1143:;
+    v1180 = v1178;
+v1179:;
+    at(u8, (v1133 + (i64)v1127) + v1180) = at(u8, (v1116 + (i64)v1121) + v1180);
+    u64 v1181 = v1180 + 1;
+    if (v1181 == v1125) goto v1164;
+    v1180 = v1181; goto v1179;
+v1141:;
+    memmove_any(v1133 + (i64)v1127, v1116 + (i64)v1121, v1125);
+v1164:;
+    at(ptr, v4 + 112) = v1133;
+    at(u64, v4 + 120) = v1132;
+    at(u64, v4 + 128) = v1126;
+    v1190 = v1125; goto v1186;
+v1131:;
+    std_io_buffered_BufWriter_write_cold(v7, v4, v1116 + (i64)v1121, v1125);
+    if (at(u8, v7) == 0) v1190 = at(u64, v7 + 8); else goto v803;
+v1186:;
+    if (v1190 == 0) goto v803;
+    u64 v1122 = v1190 + v1121;
+    at(u64, v4 + 136) = at(u64, v4 + 136) + v1190;
+    if (v1122 < v1118) { v1121 = v1122; goto v1120; }
+    goto v776;
+v389:;
+    u32 v394 = at(u32, v33 + 360);
+    u32 v397 = bswap32((v394 * 12u) + 16u);
+    u8 v398 = (u8)v397;
+    u8 v400 = (u8)(v397 >> 8);
+    u8 v402 = (u8)(v397 >> 16u);
+    u8 v404 = (u8)(v397 >> 24u);
+    u32 v405 = bswap32(v394);
+    u8 v406 = (u8)v405;
+    u8 v408 = (u8)(v405 >> 8);
+    u8 v410 = (u8)(v405 >> 16u);
+    u8 v412 = (u8)(v405 >> 24u);
+    flag v413 = at(u8, v33) == 0;
+    u64 v433 = v413 ? 28u : 36u;
     at(u64, v20) = 0;
-    at(u8, v20 + 3) = v414 ? 1 : 2;
-    at(u8, v20 + 5) = v414 ? 3 : 0;
-    at(u8, v20 + 7) = v414 ? 10u : 4;
+    at(u8, v20 + 3) = v413 ? 1 : 2;
+    at(u8, v20 + 5) = v413 ? 3 : 0;
+    at(u8, v20 + 7) = v413 ? 10u : 4;
     at(u8, v20 + 8) = 0;
     at(u8, v20 + 9) = 0;
     at(u8, v20 + 10) = 0;
-    at(u8, v20 + 11) = v414 ? 12u : 20u;
+    at(u8, v20 + 11) = v413 ? 12u : 20u;
     at(u8, v20 + 12) = 0;
-    at(u8, v20 + 13) = v414 ? 12u : 3;
+    at(u8, v20 + 13) = v413 ? 12u : 3;
     at(u8, v20 + 14) = 0;
-    at(u8, v20 + 15) = v414 ? 0 : 10u;
-    at(u8, v20 + 16) = v414 ? v399 : 0;
-    at(u8, v20 + 17) = v414 ? v401 : 0;
-    at(u8, v20 + 18) = v414 ? v403 : 0;
-    at(u8, v20 + 19) = v414 ? v405 : 20u;
+    at(u8, v20 + 15) = v413 ? 0 : 10u;
+    at(u8, v20 + 16) = v413 ? v398 : 0;
+    at(u8, v20 + 17) = v413 ? v400 : 0;
+    at(u8, v20 + 18) = v413 ? v402 : 0;
+    at(u8, v20 + 19) = v413 ? v404 : 20u;
     at(u8, v20 + 20) = 0;
-    at(u8, v20 + 21) = v414 ? 0 : 12u;
+    at(u8, v20 + 21) = v413 ? 0 : 12u;
     at(u8, v20 + 22) = 0;
     at(u8, v20 + 23) = 0;
-    at(u8, v20 + 24) = v414 ? v407 : v399;
-    at(u8, v20 + 25) = v414 ? v409 : v401;
-    at(u8, v20 + 26) = v414 ? v411 : v403;
-    at(u8, v20 + 27) = v414 ? v413 : v405;
+    at(u8, v20 + 24) = v413 ? v406 : v398;
+    at(u8, v20 + 25) = v413 ? v408 : v400;
+    at(u8, v20 + 26) = v413 ? v410 : v402;
+    at(u8, v20 + 27) = v413 ? v412 : v404;
     at(u32, v20 + 28) = 0;
-    at(u8, v20 + 32) = v414 ? 0 : v407;
-    at(u8, v20 + 33) = v414 ? 0 : v409;
-    at(u8, v20 + 34) = v414 ? 0 : v411;
-    at(u8, v20 + 35) = v414 ? 0 : v413;
+    at(u8, v20 + 32) = v413 ? 0 : v406;
+    at(u8, v20 + 33) = v413 ? 0 : v408;
+    at(u8, v20 + 34) = v413 ? 0 : v410;
+    at(u8, v20 + 35) = v413 ? 0 : v412;
     at(u32, v20 + 36) = 0;
-    at(u64, v20 + 40) = v434;
+    at(u64, v20 + 40) = v433;
     at(u8, v4 + 145) = 0;
-    v436 = 0;
-v435:;
-    u64 v440 = v434 - v436;
+    v435 = 0;
+v434:;
+    u64 v439 = v433 - v435;
     memset(v19, 0, 96u);
-    u64 v441 = at(u64, v4 + 128);
-    u64 v442 = at(u64, v4 + 120);
-    if (!(v440 < (v441 - v442))) goto v446;
-    u64 v447 = v442 + v440;
-    u8 *v448 = at(ptr, v4 + 112);
-    u64 v449 = (u64)v448;
-    if (!((((u64)(v448 + (i64)v442)) - ((u64)(v20 + (i64)v436))) < v440)) goto v456;
-    if (v440 < 4) { v493 = 0; goto v458; }
-    if (((v442 + v449) - (v436 + v21)) < 32u) { v493 = 0; goto v458; }
-    if (v440 < 16u) { v482 = 0; goto v466; }
-    u64 v468 = v440 & 12u;
-    u64 v469 = v440 & 48u;
-    v471 = 0;
-v470:;
-    at(u8x16_1, (v448 + (i64)v442) + v471) = at(u8x16_1, (v20 + (i64)v436) + v471);
-    u64 v472 = v471 + 16u;
-    if (!(v472 == v469)) { v471 = v472; goto v470; }
-    if (v440 == v469) goto v479;
-    if (v468 == 0) { v493 = v469; goto v458; }
-    v482 = v469;
-v466:;
-    u64 v483 = v440 & 60u;
-    v485 = v482;
-v484:;
-    at(u8x4_1, (v448 + (i64)v442) + v485) = at(u8x4_1, (v20 + (i64)v436) + v485);
-    u64 v486 = v485 + 4;
-    if (!(v486 == v483)) { v485 = v486; goto v484; }
-    if (v440 == v483) goto v479;
-    v493 = v483;
-v458:;
-    v495 = v493;
-v494:;
-    at(u8, (v448 + (i64)v442) + v495) = at(u8, (v20 + (i64)v436) + v495);
-    u64 v496 = v495 + 1;
-    if (v496 == v440) goto v479;
-    v495 = v496; goto v494;
-v456:;
-    memmove_any(v448 + (i64)v442, v20 + (i64)v436, v440);
-v479:;
-    at(ptr, v4 + 112) = v448;
-    at(u64, v4 + 120) = v447;
-    at(u64, v4 + 128) = v441;
-    v506 = v440; goto v501;
-v446:;
-    std_io_buffered_BufWriter_write_cold(v19, v4, v20 + (i64)v436, v440);
-    if (at(u8, v19) == 0) v506 = at(u64, v19 + 8); else goto v505;
-v501:;
-    if (v506 == 0) goto v505;
-    u64 v437 = v506 + v436;
-    at(u64, v4 + 136) = at(u64, v4 + 136) + v506;
-    if (v437 < v434) { v436 = v437; goto v435; }
+    u64 v440 = at(u64, v4 + 128);
+    u64 v441 = at(u64, v4 + 120);
+    if (!(v439 < (v440 - v441))) goto v445;
+    u64 v446 = v441 + v439;
+    u8 *v447 = at(ptr, v4 + 112);
+    u64 v448 = (u64)v447;
+    if (!((((u64)(v447 + (i64)v441)) - ((u64)(v20 + (i64)v435))) < v439)) goto v455;
+    if (v439 < 4) { v492 = 0; goto v457; }
+    if (((v441 + v448) - (v435 + v21)) < 32u) { v492 = 0; goto v457; }
+    if (v439 < 16u) { v481 = 0; goto v465; }
+    u64 v467 = v439 & 12u;
+    u64 v468 = v439 & 48u;
+    v470 = 0;
+v469:;
+    at(u8x16_1, (v447 + (i64)v441) + v470) = at(u8x16_1, (v20 + (i64)v435) + v470);
+    u64 v471 = v470 + 16u;
+    if (!(v471 == v468)) { v470 = v471; goto v469; }
+    if (v439 == v468) goto v478;
+    if (v467 == 0) { v492 = v468; goto v457; }
+    v481 = v468;
+v465:;
+    u64 v482 = v439 & 60u;
+    v484 = v481;
+v483:;
+    at(u8x4_1, (v447 + (i64)v441) + v484) = at(u8x4_1, (v20 + (i64)v435) + v484);
+    u64 v485 = v484 + 4;
+    if (!(v485 == v482)) { v484 = v485; goto v483; }
+    if (v439 == v482) goto v478;
+    v492 = v482;
+v457:;
+    v494 = v492;
+v493:;
+    at(u8, (v447 + (i64)v441) + v494) = at(u8, (v20 + (i64)v435) + v494);
+    u64 v495 = v494 + 1;
+    if (v495 == v439) goto v478;
+    v494 = v495; goto v493;
+v455:;
+    memmove_any(v447 + (i64)v441, v20 + (i64)v435, v439);
+v478:;
+    at(ptr, v4 + 112) = v447;
+    at(u64, v4 + 120) = v446;
+    at(u64, v4 + 128) = v440;
+    v505 = v439; goto v500;
+v445:;
+    std_io_buffered_BufWriter_write_cold(v19, v4, v20 + (i64)v435, v439);
+    if (at(u8, v19) == 0) v505 = at(u64, v19 + 8); else goto v504;
+v500:;
+    if (v505 == 0) goto v504;
+    u64 v436 = v505 + v435;
+    at(u64, v4 + 136) = at(u64, v4 + 136) + v505;
+    if (v436 < v433) { v435 = v436; goto v434; }
     memset(v17, 0, 1024u);
-    v513 = 0;
-v512:;
+    v512 = 0;
+v511:;
     memset(v16, 0, 16u);
-    v517 = v513; v520 = 0;
-v516:;
-    font_subset_kind_source_CutOfKindSource_next_run(v16, v45, v517);
-    if (!(at(u8, v16) == 1)) goto v524;
-    u32 v526 = at(u32, v16 + 8);
-    u64 v528 = v520 * 12u;
-    u16 v527 = at(u16, v16 + 12);
-    at(u32_1, v17 + v528) = bswap32(at(u32, v16 + 4));
-    at(u32_1, v17 + v528 + 4) = bswap32(v526);
-    at(u32_1, v17 + v528 + 8) = bswap32((u32)v527);
-    u32 v518 = v526 + 1;
-    u64 v521 = v520 + 1;
-    if (!(v521 == 85u)) { v517 = v518; v520 = v521; goto v516; }
+    v516 = v512; v519 = 0;
+v515:;
+    font_subset_kind_source_CutOfKindSource_next_run(v16, v45, v516);
+    if (!(at(u8, v16) == 1)) goto v523;
+    u32 v525 = at(u32, v16 + 8);
+    u64 v527 = v519 * 12u;
+    u16 v526 = at(u16, v16 + 12);
+    at(u32_1, v17 + v527) = bswap32(at(u32, v16 + 4));
+    at(u32_1, v17 + v527 + 4) = bswap32(v525);
+    at(u32_1, v17 + v527 + 8) = bswap32((u32)v526);
+    u32 v517 = v525 + 1;
+    u64 v520 = v519 + 1;
+    if (!(v520 == 85u)) { v516 = v517; v519 = v520; goto v515; }
     at(u8, v4 + 145) = 0;
-    v542 = 1020u; v543 = 85u; v514 = v518; goto v538;
-v524:;
+    v541 = 1020u; v542 = 85u; v513 = v517; goto v537;
+v523:;
     at(u8, v4 + 145) = 0;
-    if (v520 == 0) { v621 = 0; goto v541; }
-    v542 = v520 * 12u; v543 = v520; v514 = v517;
-v538:;
-    v545 = 0;
-v544:;
-    u64 v549 = v542 - v545;
+    if (v519 == 0) { v620 = 0; goto v540; }
+    v541 = v519 * 12u; v542 = v519; v513 = v516;
+v537:;
+    v544 = 0;
+v543:;
+    u64 v548 = v541 - v544;
     memset(v15, 0, 96u);
-    u64 v550 = at(u64, v4 + 128);
-    u64 v551 = at(u64, v4 + 120);
-    if (!(v549 < (v550 - v551))) goto v555;
-    u64 v556 = v551 + v549;
-    u8 *v557 = at(ptr, v4 + 112);
-    u64 v558 = (u64)v557;
-    if (!((((u64)(v557 + (i64)v551)) - ((u64)(v17 + (i64)v545))) < v549)) goto v565;
-    if (v549 < 4) { v602 = 0; goto v567; }
-    if (((v551 + v558) - (v545 + v18)) < 32u) { v602 = 0; goto v567; }
-    if (v549 < 16u) { v591 = 0; goto v575; }
-    u64 v577 = v549 & 12u;
-    u64 v578 = v549 & 0x7ffffffffffffff0u;
-    v580 = 0;
-v579:;
-    at(u8x16_1, (v557 + (i64)v551) + v580) = at(u8x16_1, (v17 + (i64)v545) + v580);
-    u64 v581 = v580 + 16u;
-    if (!(v581 == v578)) { v580 = v581; goto v579; }
-    if (v549 == v578) goto v588;
-    if (v577 == 0) { v602 = v578; goto v567; }
-    v591 = v578;
-v575:;
-    u64 v592 = v549 & 0x7ffffffffffffffcu;
-    v594 = v591;
-v593:;
-    at(u8x4_1, (v557 + (i64)v551) + v594) = at(u8x4_1, (v17 + (i64)v545) + v594);
-    u64 v595 = v594 + 4;
-    if (!(v595 == v592)) { v594 = v595; goto v593; }
-    if (v549 == v592) goto v588;
-    v602 = v592;
-v567:;
-    v604 = v602;
-v603:;
-    at(u8, (v557 + (i64)v551) + v604) = at(u8, (v17 + (i64)v545) + v604);
-    u64 v605 = v604 + 1;
-    if (v605 == v549) goto v588;
-    v604 = v605; goto v603;
-v565:;
-    memmove_any(v557 + (i64)v551, v17 + (i64)v545, v549);
-v588:;
-    at(ptr, v4 + 112) = v557;
-    at(u64, v4 + 120) = v556;
-    at(u64, v4 + 128) = v550;
-    v615 = v549; goto v610;
-v555:;
-    std_io_buffered_BufWriter_write_cold(v15, v4, v17 + (i64)v545, v549);
-    if (at(u8, v15) == 0) v615 = at(u64, v15 + 8); else goto v614;
-v610:;
-    if (v615 == 0) goto v614;
-    u64 v546 = v615 + v545;
-    at(u64, v4 + 136) = at(u64, v4 + 136) + v615;
-    if (v546 < v542) { v545 = v546; goto v544; }
-    if (v543 == 85u) { v513 = v514; goto v512; }
-    v621 = 0; goto v541;
-v614:;
+    u64 v549 = at(u64, v4 + 128);
+    u64 v550 = at(u64, v4 + 120);
+    if (!(v548 < (v549 - v550))) goto v554;
+    u64 v555 = v550 + v548;
+    u8 *v556 = at(ptr, v4 + 112);
+    u64 v557 = (u64)v556;
+    if (!((((u64)(v556 + (i64)v550)) - ((u64)(v17 + (i64)v544))) < v548)) goto v564;
+    if (v548 < 4) { v601 = 0; goto v566; }
+    if (((v550 + v557) - (v544 + v18)) < 32u) { v601 = 0; goto v566; }
+    if (v548 < 16u) { v590 = 0; goto v574; }
+    u64 v576 = v548 & 12u;
+    u64 v577 = v548 & 0x7ffffffffffffff0u;
+    v579 = 0;
+v578:;
+    at(u8x16_1, (v556 + (i64)v550) + v579) = at(u8x16_1, (v17 + (i64)v544) + v579);
+    u64 v580 = v579 + 16u;
+    if (!(v580 == v577)) { v579 = v580; goto v578; }
+    if (v548 == v577) goto v587;
+    if (v576 == 0) { v601 = v577; goto v566; }
+    v590 = v577;
+v574:;
+    u64 v591 = v548 & 0x7ffffffffffffffcu;
+    v593 = v590;
+v592:;
+    at(u8x4_1, (v556 + (i64)v550) + v593) = at(u8x4_1, (v17 + (i64)v544) + v593);
+    u64 v594 = v593 + 4;
+    if (!(v594 == v591)) { v593 = v594; goto v592; }
+    if (v548 == v591) goto v587;
+    v601 = v591;
+v566:;
+    v603 = v601;
+v602:;
+    at(u8, (v556 + (i64)v550) + v603) = at(u8, (v17 + (i64)v544) + v603);
+    u64 v604 = v603 + 1;
+    if (v604 == v548) goto v587;
+    v603 = v604; goto v602;
+v564:;
+    memmove_any(v556 + (i64)v550, v17 + (i64)v544, v548);
+v587:;
+    at(ptr, v4 + 112) = v556;
+    at(u64, v4 + 120) = v555;
+    at(u64, v4 + 128) = v549;
+    v614 = v548; goto v609;
+v554:;
+    std_io_buffered_BufWriter_write_cold(v15, v4, v17 + (i64)v544, v548);
+    if (at(u8, v15) == 0) v614 = at(u64, v15 + 8); else goto v613;
+v609:;
+    if (v614 == 0) goto v613;
+    u64 v545 = v614 + v544;
+    at(u64, v4 + 136) = at(u64, v4 + 136) + v614;
+    if (v545 < v541) { v544 = v545; goto v543; }
+    if (v542 == 85u) { v512 = v513; goto v511; }
+    v620 = 0; goto v540;
+v613:;
     at(u8, v4 + 144) = 1;
-    v621 = 1;
-v541:;
-    v623 = v621; goto v622;
-v505:;
+    v620 = 1;
+v540:;
+    v622 = v620; goto v621;
+v504:;
     at(u8, v4 + 144) = 1;
-    v623 = 1;
-v622:;
-    v1197 = v623; goto v624;
-v391:;
-    u8 v625 = at(u8, v33);
-    u64 v626 = at(u64, v33 + 368);
-    u16 v629 = at(u16, at(ptr, v45 + 8) + 64);
-    u8 *v630 = at(ptr, v45 + 168);
-    u64 v631 = at(u64, v45 + 176);
-    if (v631 == 0) { v661 = 0; goto v633; }
-    if (at(u8, v630) & 1) { v671 = 0; goto v637; }
-    if (v631 < 64u) { v661 = 0; goto v633; }
-    v641 = 0;
-v640:;
-    if (v641 == 0xffffffffffffffc0u) goto v643;
-    v648 = 0; v650 = (u8x16){0};
-v647:;
-    u8x16 v651 = v650 | ((-(at(u8x16_1, (v630 + (i64)v641) + (i64)v648) & 1)));
-    u64 v649 = v648 + 16u;
-    if (!(v649 == 64u)) { v648 = v649; v650 = v651; goto v647; }
-    if (!(bits_u8x16(v651) == 0)) { v661 = v641; goto v633; }
-v643:;
-    u64 v642 = v641 + 64u;
-    if ((v631 - v642) < 64u) v661 = v642; else { v641 = v642; goto v640; }
-v633:;
-    if (v661 < v631) v664 = v661; else { v671 = v631; goto v637; }
-v663:;
-    if (at(u8, v630 + v664) & 1) { v671 = v664; goto v637; }
-    u64 v665 = v664 + 1;
-    if (v665 == v631) v671 = v631; else { v664 = v665; goto v663; }
-v637:;
-    u16 v672 = (u16)v671;
-    if (v629 > v672) { v676 = v672; v679 = v671; } else goto v675;
-v674:;
-    u8 *v681 = at(ptr, v45 + 8);
-    if (!(at(u16, v681 + 64) > v676)) { v722 = 0; v723 = (u8 *)table_d0e67785; goto v686; }
-    u8 *v690 = at(ptr_1, v681 + 32);
-    u8 *v692 = at(ptr_1, v681 + 48);
-    u64 v693 = v679 & 65535u;
-    if (!(at(u8, v681 + 70) == 0)) goto v696;
-    u64 v697 = v693 << 1;
-    v718 = ((u64)bswap16(at(u16_1, v690 + (i64)v697))) << 1; v719 = ((u64)bswap16(at(u16_1, v690 + (i64)v697 + 2))) << 1; goto v708;
-v696:;
-    u64 v709 = v693 << 2;
-    v718 = (u64)bswap32(at(u32_1, v690 + (i64)v709)); v719 = (u64)bswap32(at(u32_1, v690 + (i64)v709 + 4));
-v708:;
-    v722 = v719 - v718; v723 = v692 + (i64)v718;
-v686:;
-    if (font_write_bytes_send_padded_823e(v723, v722, v4) & 1) goto v726;
-    u64 v729 = (v679 + 1) & 65535u;
-    u8 *v730 = at(ptr, v45 + 168);
-    u64 v731 = at(u64, v45 + 176);
-    if (!(v731 > v729)) goto v734;
-    if (at(u8, v730 + v729) & 1) { v680 = v729; goto v678; }
-v734:;
-    if ((v731 - v729) < 64u) { v762 = v729; goto v740; }
-    v742 = v729;
-v741:;
-    if (!(v742 < 0xffffffffffffffc0u)) goto v744;
-    v749 = 0; v751 = (u8x16){0};
-v748:;
-    u8x16 v752 = v751 | ((-(at(u8x16_1, (v730 + (i64)v742) + (i64)v749) & 1)));
-    u64 v750 = v749 + 16u;
-    if (!(v750 == 64u)) { v749 = v750; v751 = v752; goto v748; }
-    if (!(bits_u8x16(v752) == 0)) { v762 = v742; goto v740; }
-v744:;
-    u64 v743 = v742 + 64u;
-    if ((v731 - v743) < 64u) v762 = v743; else { v742 = v743; goto v741; }
+    v622 = 1;
+v621:;
+    v1196 = v622; goto v623;
+v390:;
+    u8 v624 = at(u8, v33);
+    u64 v625 = at(u64, v33 + 368);
+    u16 v628 = at(u16, at(ptr, v45 + 8) + 64);
+    u8 *v629 = at(ptr, v45 + 168);
+    u64 v630 = at(u64, v45 + 176);
+    if (v630 == 0) { v660 = 0; goto v632; }
+    if (at(u8, v629) & 1) { v670 = 0; goto v636; }
+    if (v630 < 64u) { v660 = 0; goto v632; }
+    v640 = 0;
+v639:;
+    if (v640 == 0xffffffffffffffc0u) goto v642;
+    v647 = 0; v649 = (u8x16){0};
+v646:;
+    u8x16 v650 = v649 | ((-(at(u8x16_1, (v629 + (i64)v640) + (i64)v647) & 1)));
+    u64 v648 = v647 + 16u;
+    if (!(v648 == 64u)) { v647 = v648; v649 = v650; goto v646; }
+    if (!(bits_u8x16(v650) == 0)) { v660 = v640; goto v632; }
+v642:;
+    u64 v641 = v640 + 64u;
+    if ((v630 - v641) < 64u) v660 = v641; else { v640 = v641; goto v639; }
+v632:;
+    if (v660 < v630) v663 = v660; else { v670 = v630; goto v636; }
+v662:;
+    if (at(u8, v629 + v663) & 1) { v670 = v663; goto v636; }
+    u64 v664 = v663 + 1;
+    if (v664 == v630) v670 = v630; else { v663 = v664; goto v662; }
+v636:;
+    u16 v671 = (u16)v670;
+    if (v628 > v671) { v675 = v671; v678 = v670; } else goto v674;
+v673:;
+    u8 *v680 = at(ptr, v45 + 8);
+    if (!(at(u16, v680 + 64) > v675)) { v721 = 0; v722 = (u8 *)table_d0e67785; goto v685; }
+    u8 *v689 = at(ptr_1, v680 + 32);
+    u8 *v691 = at(ptr_1, v680 + 48);
+    u64 v692 = v678 & 65535u;
+    if (!(at(u8, v680 + 70) == 0)) goto v695;
+    u64 v696 = v692 << 1;
+    v717 = ((u64)bswap16(at(u16_1, v689 + (i64)v696))) << 1; v718 = ((u64)bswap16(at(u16_1, v689 + (i64)v696 + 2))) << 1; goto v707;
+v695:;
+    u64 v708 = v692 << 2;
+    v717 = (u64)bswap32(at(u32_1, v689 + (i64)v708)); v718 = (u64)bswap32(at(u32_1, v689 + (i64)v708 + 4));
+v707:;
+    v721 = v718 - v717; v722 = v691 + (i64)v717;
+v685:;
+    if (font_write_bytes_send_padded_823e(v722, v721, v4) & 1) goto v725;
+    u64 v728 = (v678 + 1) & 65535u;
+    u8 *v729 = at(ptr, v45 + 168);
+    u64 v730 = at(u64, v45 + 176);
+    if (!(v730 > v728)) goto v733;
+    if (at(u8, v729 + v728) & 1) { v679 = v728; goto v677; }
+v733:;
+    if ((v730 - v728) < 64u) { v761 = v728; goto v739; }
+    v741 = v728;
 v740:;
-    if (v762 < v731) v765 = v762; else { v680 = v731; goto v678; }
-v764:;
-    if (at(u8, v730 + v765) & 1) { v680 = v765; goto v678; }
-    u64 v766 = v765 + 1;
-    if (v766 == v731) v680 = v731; else { v765 = v766; goto v764; }
-v678:;
-    u16 v677 = (u16)v680;
-    if (v629 > v677) { v676 = v677; v679 = v680; goto v674; }
-v675:;
-    flag v774 = v626 != 0;
-    u64 v775 = v774 ? 0 : 4;
+    if (!(v741 < 0xffffffffffffffc0u)) goto v743;
+    v748 = 0; v750 = (u8x16){0};
+v747:;
+    u8x16 v751 = v750 | ((-(at(u8x16_1, (v729 + (i64)v741) + (i64)v748) & 1)));
+    u64 v749 = v748 + 16u;
+    if (!(v749 == 64u)) { v748 = v749; v750 = v751; goto v747; }
+    if (!(bits_u8x16(v751) == 0)) { v761 = v741; goto v739; }
+v743:;
+    u64 v742 = v741 + 64u;
+    if ((v730 - v742) < 64u) v761 = v742; else { v741 = v742; goto v740; }
+v739:;
+    if (v761 < v730) v764 = v761; else { v679 = v730; goto v677; }
+v763:;
+    if (at(u8, v729 + v764) & 1) { v679 = v764; goto v677; }
+    u64 v765 = v764 + 1;
+    if (v765 == v730) v679 = v730; else { v764 = v765; goto v763; }
+v677:;
+    u16 v676 = (u16)v679;
+    if (v628 > v676) { v675 = v676; v678 = v679; goto v673; }
+v674:;
+    flag v773 = v625 != 0;
+    u64 v774 = v773 ? 0 : 4;
     at(u8, v4 + 145) = 0;
-    if ((v625 == 0) | v774) goto v777;
-    v779 = 0;
-v778:;
-    u64 v783 = v775 - v779;
-    memset(v14, 0, 96u);
-    u64 v784 = at(u64, v4 + 128);
-    u64 v785 = at(u64, v4 + 120);
-    if (!(v783 < (v784 - v785))) goto v789;
-    u64 v790 = v785 + v783;
-    u8 *v791 = at(ptr, v4 + 112);
-    if (!((((u64)(v791 + (i64)v785)) - ((u64)((u8 *)table_18327a07 + (i64)v779))) < v783)) goto v798;
-    memset_any(v791 + (i64)v785, 0, v783);
-    goto v799;
-v798:;
-    memcpy_any(v791 + (i64)v785, (u8 *)table_18327a07 + (i64)v779, v783);
-v799:;
-    at(ptr, v4 + 112) = v791;
-    at(u64, v4 + 120) = v790;
-    at(u64, v4 + 128) = v784;
-    v805 = v783; goto v800;
-v789:;
-    std_io_buffered_BufWriter_write_cold(v14, v4, (u8 *)table_18327a07 + (i64)v779, v783);
-    if (at(u8, v14) == 0) v805 = at(u64, v14 + 8); else goto v804;
-v800:;
-    if (v805 == 0) goto v804;
-    u64 v780 = v805 + v779;
-    at(u64, v4 + 136) = at(u64, v4 + 136) + v805;
-    if (v780 < v775) { v779 = v780; goto v778; }
+    if ((v624 == 0) | v773) goto v776;
+    v778 = 0;
 v777:;
-    goto v1196;
-v392:;
-    u32 v810 = at(u32, v33 + 376);
-    u8 *v812 = at(ptr_1, at(ptr, v45 + 8));
-    u16 v814 = at(u16_1, v812 + 4);
-    u64 v816 = (u64)bswap16(v814);
-    if (v814 == 0) { v851 = (u8 *)table_d0e67785; v852 = 0; goto v818; }
-    v822 = 0;
-v819:;
-    u64 v824 = v822 << 4;
-    if (!((((at(u8, v812 + (i64)v824 + 12) == 104u) & (at(u8, v812 + (i64)v824 + 13) == 101u)) & (at(u8, v812 + (i64)v824 + 14) == 97u)) & (at(u8, v812 + (i64)v824 + 15) == 100u))) goto v820;
-    v851 = v812 + (i64)((u64)bswap32(at(u32_1, v812 + (i64)v824 + 20))); v852 = (u64)bswap32(at(u32_1, v812 + (i64)v824 + 24)); goto v818;
-v820:;
-    u64 v821 = v822 + 1;
-    if (v821 == v816) { v851 = (u8 *)table_d0e67785; v852 = 0; } else { v822 = v821; goto v819; }
+    u64 v782 = v774 - v778;
+    memset(v14, 0, 96u);
+    u64 v783 = at(u64, v4 + 128);
+    u64 v784 = at(u64, v4 + 120);
+    if (!(v782 < (v783 - v784))) goto v788;
+    u64 v789 = v784 + v782;
+    u8 *v790 = at(ptr, v4 + 112);
+    if (!((((u64)(v790 + (i64)v784)) - ((u64)((u8 *)table_18327a07 + (i64)v778))) < v782)) goto v797;
+    memset_any(v790 + (i64)v784, 0, v782);
+    goto v798;
+v797:;
+    memcpy_any(v790 + (i64)v784, (u8 *)table_18327a07 + (i64)v778, v782);
+v798:;
+    at(ptr, v4 + 112) = v790;
+    at(u64, v4 + 120) = v789;
+    at(u64, v4 + 128) = v783;
+    v804 = v782; goto v799;
+v788:;
+    std_io_buffered_BufWriter_write_cold(v14, v4, (u8 *)table_18327a07 + (i64)v778, v782);
+    if (at(u8, v14) == 0) v804 = at(u64, v14 + 8); else goto v803;
+v799:;
+    if (v804 == 0) goto v803;
+    u64 v779 = v804 + v778;
+    at(u64, v4 + 136) = at(u64, v4 + 136) + v804;
+    if (v779 < v774) { v778 = v779; goto v777; }
+v776:;
+    goto v1195;
+v391:;
+    u32 v809 = at(u32, v33 + 376);
+    u8 *v811 = at(ptr_1, at(ptr, v45 + 8));
+    u16 v813 = at(u16_1, v811 + 4);
+    u64 v815 = (u64)bswap16(v813);
+    if (v813 == 0) { v850 = (u8 *)table_d0e67785; v851 = 0; goto v817; }
+    v821 = 0;
 v818:;
-    if (font_write_made_head_send_head_front_a2d5(v851, v810, v4) & 1) goto v726;
-    u64 v856 = (u64)v851;
+    u64 v823 = v821 << 4;
+    if (!((((at(u8, v811 + (i64)v823 + 12) == 104u) & (at(u8, v811 + (i64)v823 + 13) == 101u)) & (at(u8, v811 + (i64)v823 + 14) == 97u)) & (at(u8, v811 + (i64)v823 + 15) == 100u))) goto v819;
+    v850 = v811 + (i64)((u64)bswap32(at(u32_1, v811 + (i64)v823 + 20))); v851 = (u64)bswap32(at(u32_1, v811 + (i64)v823 + 24)); goto v817;
+v819:;
+    u64 v820 = v821 + 1;
+    if (v820 == v815) { v850 = (u8 *)table_d0e67785; v851 = 0; } else { v821 = v820; goto v818; }
+v817:;
+    if (font_write_made_head_send_head_front_a2d5(v850, v809, v4) & 1) goto v725;
+    u64 v855 = (u64)v850;
     at(u8, v4 + 145) = 0;
-    v859 = 0;
-v858:;
-    u64 v863 = (u64)38u - v859;
+    v858 = 0;
+v857:;
+    u64 v862 = (u64)38u - v858;
     memset(v13, 0, 96u);
-    u64 v864 = at(u64, v4 + 128);
-    u64 v865 = at(u64, v4 + 120);
-    if (!(v863 < (v864 - v865))) goto v869;
-    u64 v870 = v865 + v863;
-    u8 *v871 = at(ptr, v4 + 112);
-    u64 v872 = (u64)v871;
+    u64 v863 = at(u64, v4 + 128);
+    u64 v864 = at(u64, v4 + 120);
+    if (!(v862 < (v863 - v864))) goto v868;
+    u64 v869 = v864 + v862;
+    u8 *v870 = at(ptr, v4 + 112);
+    u64 v871 = (u64)v870;
     memset(v4 + 120, 0, 16u);
-    if (!((((u64)(v871 + (i64)v865)) - ((u64)((v851 + 12) + (i64)v859))) < v863)) goto v879;
-    if (v859 > 34u) { v917 = 0; goto v881; }
-    if (((((v865 - v856) - 12u) + v872) - v859) < 32u) { v917 = 0; goto v881; }
-    if (v859 > 22u) { v906 = 0; goto v890; }
-    u64 v892 = v863 & 12u;
-    u64 v893 = v863 & 48u;
-    v895 = 0;
-v894:;
-    at(u8x16_1, (v871 + (i64)v865) + v895) = at(u8x16_1, ((v851 + 12) + (i64)v859) + v895);
-    u64 v896 = v895 + 16u;
-    if (!(v896 == v893)) { v895 = v896; goto v894; }
-    if (v863 == v893) goto v903;
-    if (v892 == 0) { v917 = v893; goto v881; }
-    v906 = v893;
-v890:;
-    u64 v907 = v863 & 60u;
-    v909 = v906;
-v908:;
-    at(u8x4_1, (v871 + (i64)v865) + v909) = at(u8x4_1, ((v851 + 12) + (i64)v859) + v909);
-    u64 v910 = v909 + 4;
-    if (!(v910 == v907)) { v909 = v910; goto v908; }
-    if (v863 == v907) goto v903;
-    v917 = v907;
-v881:;
-    v919 = v917;
-v918:;
-    at(u8, (v871 + (i64)v865) + v919) = at(u8, ((v851 + 12) + (i64)v859) + v919);
-    u64 v920 = v919 + 1;
-    if (v920 == v863) goto v903;
-    v919 = v920; goto v918;
-v879:;
-    memmove_any(v871 + (i64)v865, (v851 + 12) + (i64)v859, v863);
-v903:;
-    at(ptr, v4 + 112) = v871;
-    at(u64, v4 + 120) = v870;
-    at(u64, v4 + 128) = v864;
-    v930 = v863; goto v861;
-v869:;
-    std_io_buffered_BufWriter_write_cold(v13, v4, (v851 + 12) + (i64)v859, v863);
-    u64 v926 = at(u64, v13 + 8);
-    if (!((at(u8, v13) != 0) ? 1 : (v926 == 0))) { v930 = v926; goto v861; }
-v804:;
+    if (!((((u64)(v870 + (i64)v864)) - ((u64)((v850 + 12) + (i64)v858))) < v862)) goto v878;
+    if (v858 > 34u) { v916 = 0; goto v880; }
+    if (((((v864 - v855) - 12u) + v871) - v858) < 32u) { v916 = 0; goto v880; }
+    if (v858 > 22u) { v905 = 0; goto v889; }
+    u64 v891 = v862 & 12u;
+    u64 v892 = v862 & 48u;
+    v894 = 0;
+v893:;
+    at(u8x16_1, (v870 + (i64)v864) + v894) = at(u8x16_1, ((v850 + 12) + (i64)v858) + v894);
+    u64 v895 = v894 + 16u;
+    if (!(v895 == v892)) { v894 = v895; goto v893; }
+    if (v862 == v892) goto v902;
+    if (v891 == 0) { v916 = v892; goto v880; }
+    v905 = v892;
+v889:;
+    u64 v906 = v862 & 60u;
+    v908 = v905;
+v907:;
+    at(u8x4_1, (v870 + (i64)v864) + v908) = at(u8x4_1, ((v850 + 12) + (i64)v858) + v908);
+    u64 v909 = v908 + 4;
+    if (!(v909 == v906)) { v908 = v909; goto v907; }
+    if (v862 == v906) goto v902;
+    v916 = v906;
+v880:;
+    v918 = v916;
+v917:;
+    at(u8, (v870 + (i64)v864) + v918) = at(u8, ((v850 + 12) + (i64)v858) + v918);
+    u64 v919 = v918 + 1;
+    if (v919 == v862) goto v902;
+    v918 = v919; goto v917;
+v878:;
+    memmove_any(v870 + (i64)v864, (v850 + 12) + (i64)v858, v862);
+v902:;
+    at(ptr, v4 + 112) = v870;
+    at(u64, v4 + 120) = v869;
+    at(u64, v4 + 128) = v863;
+    v929 = v862; goto v860;
+v868:;
+    std_io_buffered_BufWriter_write_cold(v13, v4, (v850 + 12) + (i64)v858, v862);
+    u64 v925 = at(u64, v13 + 8);
+    if (!((at(u8, v13) != 0) ? 1 : (v925 == 0))) { v929 = v925; goto v860; }
+v803:;
     at(u8, v4 + 144) = 1;
-v726:;
-    goto v325;
-v861:;
-    u64 v860 = v930 + v859;
-    at(u64, v4 + 136) = at(u64, v4 + 136) + v930;
-    if (v860 < 38u) { v859 = v860; goto v858; }
-    u8 v935 = font_write_made_head_send_head_end_7cc9(v851, v852, v4);
-    v1197 = v935; goto v624;
-v393:;
+v725:;
+    goto v324;
+v860:;
+    u64 v859 = v929 + v858;
+    at(u64, v4 + 136) = at(u64, v4 + 136) + v929;
+    if (v859 < 38u) { v858 = v859; goto v857; }
+    u8 v934 = font_write_made_head_send_head_end_7cc9(v850, v851, v4);
+    v1196 = v934; goto v623;
+v392:;
     memset(v11, 0, 1024u);
-    u8 *v936 = at(ptr, v45 + 168);
-    u64 v937 = at(u64, v45 + 176);
-    if (v937 == 0) { v967 = 0; goto v939; }
-    if (at(u8, v936) & 1) { v977 = 0; goto v943; }
-    if (v937 < 64u) { v967 = 0; goto v939; }
-    v947 = 0;
-v946:;
-    if (v947 == 0xffffffffffffffc0u) goto v949;
-    v954 = 0; v956 = (u8x16){0};
-v953:;
-    u8x16 v957 = v956 | ((-(at(u8x16_1, (v936 + (i64)v947) + (i64)v954) & 1)));
-    u64 v955 = v954 + 16u;
-    if (!(v955 == 64u)) { v954 = v955; v956 = v957; goto v953; }
-    if (!(bits_u8x16(v957) == 0)) { v967 = v947; goto v939; }
-v949:;
-    u64 v948 = v947 + 64u;
-    if ((v937 - v948) < 64u) v967 = v948; else { v947 = v948; goto v946; }
-v939:;
-    if (v967 < v937) v970 = v967; else { v977 = v937; goto v943; }
-v969:;
-    if (at(u8, v936 + v970) & 1) { v977 = v970; goto v943; }
-    u64 v971 = v970 + 1;
-    if (v971 == v937) v977 = v937; else { v970 = v971; goto v969; }
-v943:;
-    u16 v978 = (u16)v977;
-    u16 v981 = at(u16, at(ptr, v45 + 8) + 64);
+    u8 *v935 = at(ptr, v45 + 168);
+    u64 v936 = at(u64, v45 + 176);
+    if (v936 == 0) { v966 = 0; goto v938; }
+    if (at(u8, v935) & 1) { v976 = 0; goto v942; }
+    if (v936 < 64u) { v966 = 0; goto v938; }
+    v946 = 0;
+v945:;
+    if (v946 == 0xffffffffffffffc0u) goto v948;
+    v953 = 0; v955 = (u8x16){0};
+v952:;
+    u8x16 v956 = v955 | ((-(at(u8x16_1, (v935 + (i64)v946) + (i64)v953) & 1)));
+    u64 v954 = v953 + 16u;
+    if (!(v954 == 64u)) { v953 = v954; v955 = v956; goto v952; }
+    if (!(bits_u8x16(v956) == 0)) { v966 = v946; goto v938; }
+v948:;
+    u64 v947 = v946 + 64u;
+    if ((v936 - v947) < 64u) v966 = v947; else { v946 = v947; goto v945; }
+v938:;
+    if (v966 < v936) v969 = v966; else { v976 = v936; goto v942; }
+v968:;
+    if (at(u8, v935 + v969) & 1) { v976 = v969; goto v942; }
+    u64 v970 = v969 + 1;
+    if (v970 == v936) v976 = v936; else { v969 = v970; goto v968; }
+v942:;
+    u16 v977 = (u16)v976;
+    u16 v980 = at(u16, at(ptr, v45 + 8) + 64);
     at(u32, v10) = 0;
     at(u8, v4 + 145) = 0;
-    v983 = 0;
-v982:;
-    u64 v987 = (u64)4 - v983;
+    v982 = 0;
+v981:;
+    u64 v986 = (u64)4 - v982;
     memset(v9, 0, 96u);
-    u64 v988 = at(u64, v4 + 128);
-    u64 v989 = at(u64, v4 + 120);
-    if (!(v987 < (v988 - v989))) goto v993;
-    u64 v994 = v989 + v987;
-    u8 *v995 = at(ptr, v4 + 112);
-    if ((((u64)(v995 + (i64)v989)) - ((u64)(v10 + (i64)v983))) < v987) v1004 = 0; else goto v1002;
+    u64 v987 = at(u64, v4 + 128);
+    u64 v988 = at(u64, v4 + 120);
+    if (!(v986 < (v987 - v988))) goto v992;
+    u64 v993 = v988 + v986;
+    u8 *v994 = at(ptr, v4 + 112);
+    if ((((u64)(v994 + (i64)v988)) - ((u64)(v10 + (i64)v982))) < v986) v1003 = 0; else goto v1001;
+v1000:;
+    at(u8, (v994 + (i64)v988) + v1003) = at(u8, (v10 + (i64)v982) + v1003);
+    u64 v1004 = v1003 + 1;
+    if (v1004 == v986) goto v1002;
+    v1003 = v1004; goto v1000;
 v1001:;
-    at(u8, (v995 + (i64)v989) + v1004) = at(u8, (v10 + (i64)v983) + v1004);
-    u64 v1005 = v1004 + 1;
-    if (v1005 == v987) goto v1003;
-    v1004 = v1005; goto v1001;
+    memmove_any(v994 + (i64)v988, v10 + (i64)v982, v986);
 v1002:;
-    memmove_any(v995 + (i64)v989, v10 + (i64)v983, v987);
-v1003:;
-    at(ptr, v4 + 112) = v995;
-    at(u64, v4 + 120) = v994;
-    at(u64, v4 + 128) = v988;
-    v1016 = v987; goto v985;
-v993:;
-    std_io_buffered_BufWriter_write_cold(v9, v4, v10 + (i64)v983, v987);
-    u64 v1011 = at(u64, v9 + 8);
-    if (!((at(u8, v9) != 0) ? 1 : (v1011 == 0))) { v1016 = v1011; goto v985; }
+    at(ptr, v4 + 112) = v994;
+    at(u64, v4 + 120) = v993;
+    at(u64, v4 + 128) = v987;
+    v1015 = v986; goto v984;
+v992:;
+    std_io_buffered_BufWriter_write_cold(v9, v4, v10 + (i64)v982, v986);
+    u64 v1010 = at(u64, v9 + 8);
+    if (!((at(u8, v9) != 0) ? 1 : (v1010 == 0))) { v1015 = v1010; goto v984; }
     at(u8, v4 + 144) = 1;
-    v1113 = 1; goto v1022;
-v985:;
-    u64 v984 = v1016 + v983;
-    at(u64, v4 + 136) = at(u64, v4 + 136) + v1016;
-    if (v984 < 4) { v983 = v984; goto v982; }
-    if (v981 == 0) { v1113 = 0; goto v1022; }
-    v1024 = 0; v1027 = v978; v1029 = 0;
-v1023:;
-    u16 v1032 = umin16((u16)(v981 - v1029), 256u);
-    u16 v1030 = (u16)(v1032 + v1029);
-    u32_u16 v1033 = font_write_made_loca_gather_offsets(v45, v1029, v1030, v1024, v1027, v11);
-    u64 v1035 = (u64)((u16)((u32)v1032 << 2));
-    at(u8, v4 + 145) = 0;
-    v1037 = 0;
-v1036:;
-    u64 v1041 = v1035 - v1037;
-    memset(v8, 0, 96u);
-    u64 v1042 = at(u64, v4 + 128);
-    u64 v1043 = at(u64, v4 + 120);
-    if (!(v1041 < (v1042 - v1043))) goto v1047;
-    u64 v1048 = v1043 + v1041;
-    u8 *v1049 = at(ptr, v4 + 112);
-    u64 v1050 = (u64)v1049;
-    if (!((((u64)(v1049 + (i64)v1043)) - ((u64)(v11 + (i64)v1037))) < v1041)) goto v1057;
-    if (v1041 < 4) { v1094 = 0; goto v1059; }
-    if (((v1043 + v1050) - (v1037 + v12)) < 32u) { v1094 = 0; goto v1059; }
-    if (v1041 < 16u) { v1083 = 0; goto v1067; }
-    u64 v1069 = v1041 & 12u;
-    u64 v1070 = v1041 & 2032u;
-    v1072 = 0;
-v1071:;
-    at(u8x16_1, (v1049 + (i64)v1043) + v1072) = at(u8x16_1, (v11 + (i64)v1037) + v1072);
-    u64 v1073 = v1072 + 16u;
-    if (!(v1073 == v1070)) { v1072 = v1073; goto v1071; }
-    if (v1041 == v1070) goto v1080;
-    if (v1069 == 0) { v1094 = v1070; goto v1059; }
-    v1083 = v1070;
-v1067:;
-    u64 v1084 = v1041 & 2044u;
-    v1086 = v1083;
-v1085:;
-    at(u8x4_1, (v1049 + (i64)v1043) + v1086) = at(u8x4_1, (v11 + (i64)v1037) + v1086);
-    u64 v1087 = v1086 + 4;
-    if (!(v1087 == v1084)) { v1086 = v1087; goto v1085; }
-    if (v1041 == v1084) goto v1080;
-    v1094 = v1084;
-v1059:;
-    v1096 = v1094;
-v1095:;
-    at(u8, (v1049 + (i64)v1043) + v1096) = at(u8, (v11 + (i64)v1037) + v1096);
-    u64 v1097 = v1096 + 1;
-    if (v1097 == v1041) goto v1080;
-    v1096 = v1097; goto v1095;
-v1057:;
-    memmove_any(v1049 + (i64)v1043, v11 + (i64)v1037, v1041);
-v1080:;
-    at(ptr, v4 + 112) = v1049;
-    at(u64, v4 + 120) = v1048;
-    at(u64, v4 + 128) = v1042;
-    v1107 = v1041; goto v1102;
-v1047:;
-    std_io_buffered_BufWriter_write_cold(v8, v4, v11 + (i64)v1037, v1041);
-    if (at(u8, v8) == 0) v1107 = at(u64, v8 + 8); else goto v1106;
-v1102:;
-    if (v1107 == 0) goto v1106;
-    u64 v1038 = v1107 + v1037;
-    at(u64, v4 + 136) = at(u64, v4 + 136) + v1107;
-    if (v1038 < v1035) { v1037 = v1038; goto v1036; }
-    if (v1030 < v981) { v1024 = v1033._0; v1027 = v1033._1; v1029 = v1030; goto v1023; }
-    v1113 = 0; goto v1022;
-v1106:;
-    at(u8, v4 + 144) = 1;
-    v1113 = 1;
+    v1112 = 1; goto v1021;
+v984:;
+    u64 v983 = v1015 + v982;
+    at(u64, v4 + 136) = at(u64, v4 + 136) + v1015;
+    if (v983 < 4) { v982 = v983; goto v981; }
+    if (v980 == 0) { v1112 = 0; goto v1021; }
+    v1023 = 0; v1026 = v977; v1028 = 0;
 v1022:;
-    v1197 = v1113;
-v624:;
-    if (v1197 & 1) goto v325;
-v1196:;
-    u32 v1204 = ((u32)0 - at(u32, v33 + (i64)(v383 * 12u) + 8)) & 3;
-    u64 v1205 = (u64)v1204;
+    u16 v1031 = umin16((u16)(v980 - v1028), 256u);
+    u16 v1029 = (u16)(v1031 + v1028);
+    u32_u16 v1032 = font_write_made_loca_gather_offsets(v45, v1028, v1029, v1023, v1026, v11);
+    u64 v1034 = (u64)((u16)((u32)v1031 << 2));
     at(u8, v4 + 145) = 0;
-    if (v1204 == 0) goto v385;
-    v1208 = 0;
-v1207:;
-    u64 v1212 = v1205 - v1208;
-    memset(v6, 0, 96u);
-    u64 v1213 = at(u64, v4 + 128);
-    u64 v1214 = at(u64, v4 + 120);
-    if (!(v1212 < (v1213 - v1214))) goto v1218;
-    u64 v1219 = v1214 + v1212;
-    u8 *v1220 = at(ptr, v4 + 112);
-    if (!((((u64)(v1220 + (i64)v1214)) - ((u64)((u8 *)table_18327a07 + (i64)v1208))) < v1212)) goto v1227;
-    memset_any(v1220 + (i64)v1214, 0, v1212);
-    goto v1228;
-v1227:;
-    memcpy_any(v1220 + (i64)v1214, (u8 *)table_18327a07 + (i64)v1208, v1212);
-v1228:;
-    at(ptr, v4 + 112) = v1220;
-    at(u64, v4 + 120) = v1219;
-    at(u64, v4 + 128) = v1213;
-    v1234 = v1212; goto v1229;
-v1218:;
-    std_io_buffered_BufWriter_write_cold(v6, v4, (u8 *)table_18327a07 + (i64)v1208, v1212);
-    if (at(u8, v6) == 0) v1234 = at(u64, v6 + 8); else goto v1233;
-v1229:;
-    if (v1234 == 0) goto v1233;
-    u64 v1209 = v1234 + v1208;
-    at(u64, v4 + 136) = at(u64, v4 + 136) + v1234;
-    if (v1209 < v1205) { v1208 = v1209; goto v1207; }
-v385:;
-    u64 v384 = v383 + 1;
-    if (!(v384 == 29u)) { v383 = v384; goto v382; }
-    memcpy(v52, v45, 320u);
-    font_subset_kind_source_CutOfKind_drop_3cda(v52);
-    if (v105 ? 1 : (v103 == 0)) goto v1250;
-    sys_rattle_dealloc(v99);
-v1250:;
-    at(u64_1, v0) = 0;
-    at(u64_1, v0 + 8) = v162;
-    at(u64_1, v0 + 16) = 0;
-    return;
-v1233:;
+    v1036 = 0;
+v1035:;
+    u64 v1040 = v1034 - v1036;
+    memset(v8, 0, 96u);
+    u64 v1041 = at(u64, v4 + 128);
+    u64 v1042 = at(u64, v4 + 120);
+    if (!(v1040 < (v1041 - v1042))) goto v1046;
+    u64 v1047 = v1042 + v1040;
+    u8 *v1048 = at(ptr, v4 + 112);
+    u64 v1049 = (u64)v1048;
+    if (!((((u64)(v1048 + (i64)v1042)) - ((u64)(v11 + (i64)v1036))) < v1040)) goto v1056;
+    if (v1040 < 4) { v1093 = 0; goto v1058; }
+    if (((v1042 + v1049) - (v1036 + v12)) < 32u) { v1093 = 0; goto v1058; }
+    if (v1040 < 16u) { v1082 = 0; goto v1066; }
+    u64 v1068 = v1040 & 12u;
+    u64 v1069 = v1040 & 2032u;
+    v1071 = 0;
+v1070:;
+    at(u8x16_1, (v1048 + (i64)v1042) + v1071) = at(u8x16_1, (v11 + (i64)v1036) + v1071);
+    u64 v1072 = v1071 + 16u;
+    if (!(v1072 == v1069)) { v1071 = v1072; goto v1070; }
+    if (v1040 == v1069) goto v1079;
+    if (v1068 == 0) { v1093 = v1069; goto v1058; }
+    v1082 = v1069;
+v1066:;
+    u64 v1083 = v1040 & 2044u;
+    v1085 = v1082;
+v1084:;
+    at(u8x4_1, (v1048 + (i64)v1042) + v1085) = at(u8x4_1, (v11 + (i64)v1036) + v1085);
+    u64 v1086 = v1085 + 4;
+    if (!(v1086 == v1083)) { v1085 = v1086; goto v1084; }
+    if (v1040 == v1083) goto v1079;
+    v1093 = v1083;
+v1058:;
+    v1095 = v1093;
+v1094:;
+    at(u8, (v1048 + (i64)v1042) + v1095) = at(u8, (v11 + (i64)v1036) + v1095);
+    u64 v1096 = v1095 + 1;
+    if (v1096 == v1040) goto v1079;
+    v1095 = v1096; goto v1094;
+v1056:;
+    memmove_any(v1048 + (i64)v1042, v11 + (i64)v1036, v1040);
+v1079:;
+    at(ptr, v4 + 112) = v1048;
+    at(u64, v4 + 120) = v1047;
+    at(u64, v4 + 128) = v1041;
+    v1106 = v1040; goto v1101;
+v1046:;
+    std_io_buffered_BufWriter_write_cold(v8, v4, v11 + (i64)v1036, v1040);
+    if (at(u8, v8) == 0) v1106 = at(u64, v8 + 8); else goto v1105;
+v1101:;
+    if (v1106 == 0) goto v1105;
+    u64 v1037 = v1106 + v1036;
+    at(u64, v4 + 136) = at(u64, v4 + 136) + v1106;
+    if (v1037 < v1034) { v1036 = v1037; goto v1035; }
+    if (v1029 < v980) { v1023 = v1032._0; v1026 = v1032._1; v1028 = v1029; goto v1022; }
+    v1112 = 0; goto v1021;
+v1105:;
     at(u8, v4 + 144) = 1;
-v325:;
-    v1252 = 2; v1253 = at(u64, v4 + 136);
-v1241:;
+    v1112 = 1;
+v1021:;
+    v1196 = v1112;
+v623:;
+    if (v1196 & 1) goto v324;
+v1195:;
+    u32 v1203 = ((u32)0 - at(u32, v33 + (i64)(v382 * 12u) + 8)) & 3;
+    u64 v1204 = (u64)v1203;
+    at(u8, v4 + 145) = 0;
+    if (v1203 == 0) goto v384;
+    v1207 = 0;
+v1206:;
+    u64 v1211 = v1204 - v1207;
+    memset(v6, 0, 96u);
+    u64 v1212 = at(u64, v4 + 128);
+    u64 v1213 = at(u64, v4 + 120);
+    if (!(v1211 < (v1212 - v1213))) goto v1217;
+    u64 v1218 = v1213 + v1211;
+    u8 *v1219 = at(ptr, v4 + 112);
+    if (!((((u64)(v1219 + (i64)v1213)) - ((u64)((u8 *)table_18327a07 + (i64)v1207))) < v1211)) goto v1226;
+    memset_any(v1219 + (i64)v1213, 0, v1211);
+    goto v1227;
+v1226:;
+    memcpy_any(v1219 + (i64)v1213, (u8 *)table_18327a07 + (i64)v1207, v1211);
+v1227:;
+    at(ptr, v4 + 112) = v1219;
+    at(u64, v4 + 120) = v1218;
+    at(u64, v4 + 128) = v1212;
+    v1233 = v1211; goto v1228;
+v1217:;
+    std_io_buffered_BufWriter_write_cold(v6, v4, (u8 *)table_18327a07 + (i64)v1207, v1211);
+    if (at(u8, v6) == 0) v1233 = at(u64, v6 + 8); else goto v1232;
+v1228:;
+    if (v1233 == 0) goto v1232;
+    u64 v1208 = v1233 + v1207;
+    at(u64, v4 + 136) = at(u64, v4 + 136) + v1233;
+    if (v1208 < v1204) { v1207 = v1208; goto v1206; }
+v384:;
+    u64 v383 = v382 + 1;
+    if (!(v383 == 29u)) { v382 = v383; goto v381; }
+    v1242 = 0; v1243 = v161; v1244 = 0; goto v1240;
+v1232:;
+    at(u8, v4 + 144) = 1;
+v324:;
+    v1242 = 1; v1243 = 2; v1244 = at(u64, v4 + 136);
+v1240:;
     memcpy(v51, v45, 320u);
     font_subset_kind_source_CutOfKind_drop_3cda(v51);
-    if (v105 ? 1 : (v103 == 0)) goto v1256;
-    sys_rattle_dealloc(v99);
-v1256:;
-    at(u64_1, v0) = 1;
-    at(u64_1, v0 + 8) = v1252;
-    at(u64_1, v0 + 16) = v1253;
+    if (v104 ? 1 : (v102 == 0)) goto v1247;
+    sys_rattle_dealloc(v98);
+v1247:;
+    at(u64_1, v0) = v1242;
+    at(u64_1, v0 + 8) = v1243;
+    at(u64_1, v0 + 16) = v1244;
     return;
+v115:;
 v116:;
-v117:;
-    if (v105 ? 1 : (v103 == 0)) goto v1245;
-    sys_rattle_dealloc(v99);
-v1245:;
+    if (v104 ? 1 : (v102 == 0)) goto v1251;
+    sys_rattle_dealloc(v98);
+v1251:;
     at(u64_1, v0) = 1;
     memset(v0 + 8, 0, 16u);
     return;
-v93:;
-    u8 v125 = at(u8, v44 + 16);
-    u8 *v127 = at(ptr, v44 + 24);
-    u64 v129 = at(u64, v44 + 40);
-    u8 v131 = at(u8, v44 + 56);
-    u8 *v133 = at(ptr, v44 + 64);
-    u64 v135 = at(u64, v44 + 80);
-    if (at(u64, v44 + 136) == 0) goto v139;
+v92:;
+    u8 v124 = at(u8, v44 + 16);
+    u8 *v126 = at(ptr, v44 + 24);
+    u64 v128 = at(u64, v44 + 40);
+    u8 v130 = at(u8, v44 + 56);
+    u8 *v132 = at(ptr, v44 + 64);
+    u64 v134 = at(u64, v44 + 80);
+    if (at(u64, v44 + 136) == 0) goto v138;
     sys_rattle_dealloc(at(ptr, v44 + 120));
-v139:;
-    if ((v125 != 1) ? 1 : (v129 == 0)) goto v145;
-    sys_rattle_dealloc(v127);
-v145:;
-    if ((v131 != 1) ? 1 : (v135 == 0)) goto v150;
-    sys_rattle_dealloc(v133);
-v150:;
+v138:;
+    if ((v124 != 1) ? 1 : (v128 == 0)) goto v144;
+    sys_rattle_dealloc(v126);
+v144:;
+    if ((v130 != 1) ? 1 : (v134 == 0)) goto v149;
+    sys_rattle_dealloc(v132);
+v149:;
     at(u64_1, v0) = 1;
     memset(v0 + 8, 0, 16u);
     return;
+v58:;
 v59:;
-v60:;
     at(u64_1, v0) = 1;
     memset(v0 + 8, 0, 16u);
     return;
 }
 
 u8_u8 font_subset_cut_forms_belongs(u8 *v0, u8 *v1) {
-    _Alignas(4) u8 v3[1], v15[16];
-    _Alignas(8) u8 v4[320], v5[328], v6[24], v7[320], v8[24], v9[88], v10[88], v11[16], v12[48], v13[32], v14[56], v16[32];
-    u8 v17[39], *v214, *v229, *v215, *v246, *v248, v266, v279, v280;
-    u64 v78, v82, v100, v105, v115, v116, v150, v153, v159, v160, v211, v230, v212, v245, v249;
-    u32 v85, v87, v98, v99, v103, v104;
-    u16 v216;
-    flag v244, v250;
-    memset(v16, 0, 32u);
-    memset(v17, 0, 39u);
-    u8 *v19 = at(ptr, v0 + 8);
-    memset(v14, 0, 56u);
-    memset(v15, 0, 16u);
-    font_map_chart_Chart_of_3518(v14, v19 + 72);
-    if (!(at(u8, v14) == 0)) goto v24;
-    u64 v26 = at(u64, v14 + 48);
-    u64 v32 = (u64)at(u8, v14 + 16);
-    at(u64, v12) = at(u64, v14 + 8);
-    at(u64, v12 + 8) = v32;
-    memcpy(v12 + 16, v14 + 24, 24u);
-    at(u64, v12 + 40) = v26;
-    at(ptr, v13) = v3;
-    memset(v13 + 8, 0, 24u);
-    font_map_chart_Chart_next_run_33e3(v15, v12, 0);
-    if (!(at(u8, v15) == 1)) goto v40;
-v45:;
-    u32 v46 = at(u32, v15 + 4);
-    u32 v47 = at(u32, v15 + 8);
-    if (!((v47 < v46) | (v47 > 1114111u))) goto v52;
+    _Alignas(4) u8 v3[1], v14[16];
+    _Alignas(8) u8 v4[320], v5[328], v6[24], v7[320], v8[24], v9[16], v10[16], v11[48], v12[32], v13[56], v15[32];
+    u8 v16[39], *v213, *v228, *v214, *v244, *v247, *v249, *v250, v267, v280, v281;
+    u64 v77, v81, v99, v104, v114, v115, v149, v152, v158, v159, v210, v229, v211, v246, v251;
+    u32 v84, v86, v97, v98, v102, v103;
+    u16 v215;
+    flag v245, v252;
+    memset(v15, 0, 32u);
+    memset(v16, 0, 39u);
+    u8 *v18 = at(ptr, v0 + 8);
+    memset(v13, 0, 56u);
+    memset(v14, 0, 16u);
+    font_map_chart_Chart_of_3518(v13, v18 + 72);
+    if (!(at(u8, v13) == 0)) goto v23;
+    u64 v25 = at(u64, v13 + 48);
+    u64 v31 = (u64)at(u8, v13 + 16);
+    at(u64, v11) = at(u64, v13 + 8);
+    at(u64, v11 + 8) = v31;
+    memcpy(v11 + 16, v13 + 24, 24u);
+    at(u64, v11 + 40) = v25;
+    at(ptr, v12) = v3;
+    memset(v12 + 8, 0, 24u);
+    font_map_chart_Chart_next_run_33e3(v14, v11, 0);
+    if (!(at(u8, v14) == 1)) goto v39;
+v44:;
+    u32 v45 = at(u32, v14 + 4);
+    u32 v46 = at(u32, v14 + 8);
+    if (!((v46 < v45) | (v46 > 1114111u))) goto v51;
     __builtin_trap();
     __builtin_trap();
-v52:;
-    u8 *v53 = at(ptr, v13);
-    u64 v54 = at(u64, v13 + 8);
-    u64 v55 = usub_sat64(v54, 1);
-    u32 v56 = usub_sat32(v46, 1);
-    at(ptr, v11) = v53;
-    at(u64, v11 + 8) = v54;
-    if (!(v54 > v55)) goto v59;
-    if (!(v56 > at(u32, v53 + (v55 << 3) + 4))) goto v59;
-    u64 v66 = v55 + 1;
-    if (!(v66 == v54)) goto v69;
-    v103 = v47; v104 = v46; v105 = v54; goto v70;
-v69:;
-    if (!(v56 > at(u32, v53 + (v66 << 3) + 4))) { v78 = v66; goto v76; }
-v59:;
-    u64 v77 = codes_search_searched_bc95(v11, v55, v56);
-    v78 = v77;
-v76:;
-    if (v78 < v54) { v82 = v78; v85 = v47; v87 = v46; } else { v98 = v46; v99 = v47; v100 = v54; goto v81; }
+v51:;
+    u8 *v52 = at(ptr, v12);
+    u64 v53 = at(u64, v12 + 8);
+    u64 v54 = usub_sat64(v53, 1);
+    u32 v55 = usub_sat32(v45, 1);
+    at(ptr, v10) = v52;
+    at(u64, v10 + 8) = v53;
+    if (!(v53 > v54)) goto v58;
+    if (!(v55 > at(u32, v52 + (v54 << 3) + 4))) goto v58;
+    u64 v65 = v54 + 1;
+    if (!(v65 == v53)) goto v68;
+    v102 = v46; v103 = v45; v104 = v53; goto v69;
+v68:;
+    if (!(v55 > at(u32, v52 + (v65 << 3) + 4))) { v77 = v65; goto v75; }
+v58:;
+    u64 v76 = codes_search_searched_bc95(v10, v54, v55);
+    v77 = v76;
+v75:;
+    if (v77 < v53) { v81 = v77; v84 = v46; v86 = v45; } else { v97 = v45; v98 = v46; v99 = v53; goto v80; }
+v79:;
+    u64 v90 = at(u64_1, v52 + (v81 << 3));
+    u32 v91 = (u32)v90;
+    if (v84 < usub_sat32(v91, 1)) { v97 = v86; v98 = v84; v99 = v81; goto v80; }
+    u32 v87 = umin32(v91, v86);
+    u32 v85 = umax32((u32)(v90 >> 32u), v84);
+    u64 v82 = v81 + 1;
+    if (v82 == v53) { v97 = v87; v98 = v85; v99 = v53; } else { v81 = v82; v84 = v85; v86 = v87; goto v79; }
 v80:;
-    u64 v91 = at(u64_1, v53 + (v82 << 3));
-    u32 v92 = (u32)v91;
-    if (v85 < usub_sat32(v92, 1)) { v98 = v87; v99 = v85; v100 = v82; goto v81; }
-    u32 v88 = umin32(v92, v87);
-    u32 v86 = umax32((u32)(v91 >> 32u), v85);
-    u64 v83 = v82 + 1;
-    if (v83 == v54) { v98 = v88; v99 = v86; v100 = v54; } else { v82 = v83; v85 = v86; v87 = v88; goto v80; }
-v81:;
-    if (v78 == v100) { v103 = v99; v104 = v98; v105 = v78; } else goto v102;
-v70:;
-    u64 v106 = at(u64, v13 + 16);
-    if (!(v106 == v54)) { v115 = v106; v116 = v54; goto v109; }
-    if (!std_alloc_vec_Vec_grow_amortized_295f(v13)) goto v112;
-    v115 = at(u64, v13 + 16); v116 = at(u64, v13 + 8); goto v109;
-v112:;
-    if (at(u64, v13 + 16) == 0) goto v175;
-    sys_rattle_dealloc(at(ptr, v13));
-v175:;
-    if ((at(u8, v12 + 8) != 1) ? 1 : (at(u64, v12 + 32) == 0)) goto v24;
-    sys_rattle_dealloc(at(ptr, v12 + 16));
-    goto v24;
-v109:;
-    if (!(v116 < v115)) goto v119;
-    std_alloc_vec_Vec_put_at_aaa0(v13, v105, v104, v103);
-    goto v120;
+    if (v77 == v99) { v102 = v98; v103 = v97; v104 = v77; } else goto v101;
+v69:;
+    u64 v105 = at(u64, v12 + 16);
+    if (!(v105 == v53)) { v114 = v105; v115 = v53; goto v108; }
+    if (!std_alloc_vec_Vec_grow_amortized_295f(v12)) goto v111;
+    v114 = at(u64, v12 + 16); v115 = at(u64, v12 + 8); goto v108;
+v111:;
+    if (at(u64, v12 + 16) == 0) goto v174;
+    sys_rattle_dealloc(at(ptr, v12));
+v174:;
+    if ((at(u8, v11 + 8) != 1) ? 1 : (at(u64, v11 + 32) == 0)) goto v23;
+    sys_rattle_dealloc(at(ptr, v11 + 16));
+    goto v23;
+v108:;
+    if (!(v115 < v114)) goto v118;
+    std_alloc_vec_Vec_put_at_aaa0(v12, v104, v103, v102);
+    goto v119;
+v118:;
+    if (!(v114 == v115)) goto v122;
+    if (std_alloc_vec_Vec_grow_amortized_295f(v12)) goto v122;
+    __builtin_trap();
+    __builtin_trap();
+v122:;
+    std_alloc_vec_Vec_put_at_aaa0(v12, v104, v103, v102);
+    goto v119;
+v101:;
+    u64 v125 = v77 << 3;
+    at(u32_1, v52 + (i64)v125) = v97;
+    at(u32_1, v52 + (i64)v125 + 4) = v98;
+    u64 v128 = v77 + 1;
+    u64 v129 = v99 - v128;
+    u64 v130 = v53 - v129;
+    core_slice_edits_slice_T_rotate_left(v52 + (i64)(v128 << 3), v53 - v128, v129);
+    u64 v134 = v130 << 3;
+    if (!(v129 > 15u)) goto v138;
+    u64 v145 = v129 >> 1;
+    core_slice_edits_mirror_fc6a(v52 + (i64)v134, 0, (v52 + (i64)v134) + (i64)((v129 - v145) << 3), v145);
+    goto v141;
+v138:;
+    if (!(v129 > 1)) goto v141;
+    u64 v143 = (v129 - 2) >> 1;
+    v149 = 0; v152 = v129;
+v144:;
+    u64 v153 = v152 - 1;
+    if (v149 < v153) { v158 = v149; v159 = v153; goto v155; }
+    if (v153 < v149) { v158 = v153; v159 = v149; } else goto v151;
+v155:;
+    u64 v160 = v158 << 3;
+    u64 v162 = v159 << 3;
+    u64 v164 = at(u64_1, (v52 + (i64)v134) + v160);
+    at(u64_1, (v52 + (i64)v134) + v160) = at(u64_1, (v52 + (i64)v134) + v162);
+    at(u64_1, (v52 + (i64)v134) + v162) = v164;
+v151:;
+    if (!(v149 == v143)) { v149 = v149 + 1; v152 = v153; goto v144; }
+v141:;
+    if (!(v130 < v53)) goto v119;
+    at(u64, v12 + 8) = v130;
 v119:;
-    if (!(v115 == v116)) goto v123;
-    if (std_alloc_vec_Vec_grow_amortized_295f(v13)) goto v123;
-    __builtin_trap();
-    __builtin_trap();
-v123:;
-    std_alloc_vec_Vec_put_at_aaa0(v13, v105, v104, v103);
-    goto v120;
-v102:;
-    u64 v126 = v78 << 3;
-    at(u32_1, v53 + (i64)v126) = v98;
-    at(u32_1, v53 + (i64)v126 + 4) = v99;
-    u64 v129 = v78 + 1;
-    u64 v130 = v100 - v129;
-    u64 v131 = v54 - v130;
-    core_slice_edits_slice_T_rotate_left(v53 + (i64)(v129 << 3), v54 - v129, v130);
-    u64 v135 = v131 << 3;
-    if (!(v130 > 15u)) goto v139;
-    u64 v146 = v130 >> 1;
-    core_slice_edits_mirror_fc6a(v53 + (i64)v135, 0, (v53 + (i64)v135) + (i64)((v130 - v146) << 3), v146);
-    goto v142;
-v139:;
-    if (!(v130 > 1)) goto v142;
-    u64 v144 = (v130 - 2) >> 1;
-    v150 = 0; v153 = v130;
-v145:;
-    u64 v154 = v153 - 1;
-    if (v150 < v154) { v159 = v150; v160 = v154; goto v156; }
-    if (v154 < v150) { v159 = v154; v160 = v150; } else goto v152;
-v156:;
-    u64 v161 = v159 << 3;
-    u64 v163 = v160 << 3;
-    u64 v165 = at(u64_1, (v53 + (i64)v135) + v161);
-    at(u64_1, (v53 + (i64)v135) + v161) = at(u64_1, (v53 + (i64)v135) + v163);
-    at(u64_1, (v53 + (i64)v135) + v163) = v165;
-v152:;
-    if (!(v150 == v144)) { v150 = v150 + 1; v153 = v154; goto v145; }
-v142:;
-    if (!(v131 < v54)) goto v120;
-    at(u64, v13 + 8) = v131;
-v120:;
-    font_map_chart_Chart_next_run_33e3(v15, v12, v47 + 1);
-    if (at(u8, v15) == 1) goto v45;
-v40:;
-    if ((at(u8, v12 + 8) != 1) ? 1 : (at(u64, v12 + 32) == 0)) goto v192;
-    sys_rattle_dealloc(at(ptr, v12 + 16));
-v192:;
-    memcpy(v17 + 7, v13, 32u);
-    memcpy(v16, v17 + 7, 32u);
-    memset(v9, 0, 88u);
-    if (at(u8, v0) == 0) { v248 = v3; v249 = 0; v250 = 1; goto v198; }
-    font_subset_presence_Presence_of(v9, v0);
-    memcpy(v10, v9, 88u);
+    font_map_chart_Chart_next_run_33e3(v14, v11, v46 + 1);
+    if (at(u8, v14) == 1) goto v44;
+v39:;
+    if ((at(u8, v11 + 8) != 1) ? 1 : (at(u64, v11 + 32) == 0)) goto v191;
+    sys_rattle_dealloc(at(ptr, v11 + 16));
+v191:;
+    memcpy(v16 + 7, v12, 32u);
+    memcpy(v15, v16 + 7, 32u);
+    u8 *v197 = at(ptr, v0 + 8);
+    if (at(u8, v0) == 0) { v249 = v197; v250 = v3; v251 = 0; v252 = 1; goto v198; }
+    at(ptr, v9) = v0;
+    at(ptr, v9 + 8) = v0 + 312;
     at(ptr, v8) = v3;
     memset(v8 + 8, 0, 16u);
-    u16 v205 = at(u16, at(ptr, at(ptr, v10) + 8) + 64);
-    if (v205 == 0) { v244 = 1; v245 = 0; v246 = v3; goto v207; }
-    v211 = 0; v214 = v3; v216 = 0;
-v210:;
-    if (!font_subset_presence_Presence_has(v10, v216)) { v212 = v211; v215 = v214; goto v213; }
-    if (!(at(u64, v8 + 16) == v211)) { v229 = v214; v230 = v211; goto v223; }
-    if (!std_alloc_vec_Vec_grow_amortized_1aee(v8, 1)) goto v226;
-    v229 = at(ptr, v8); v230 = at(u64, v8 + 8); goto v223;
-v226:;
-    if (at(u64, v8 + 16) == 0) goto v238;
+    u16 v204 = at(u16, v197 + 64);
+    if (v204 == 0) { v244 = v197; v245 = 1; v246 = 0; v247 = v3; goto v206; }
+    v210 = 0; v213 = v3; v215 = 0;
+v209:;
+    if (!font_subset_presence_Presence_has(v9, v215)) { v211 = v210; v214 = v213; goto v212; }
+    if (!(at(u64, v8 + 16) == v210)) { v228 = v213; v229 = v210; goto v222; }
+    if (!std_alloc_vec_Vec_grow_amortized_1aee(v8, 1)) goto v225;
+    v228 = at(ptr, v8); v229 = at(u64, v8 + 8); goto v222;
+v225:;
+    if (at(u64, v8 + 16) == 0) goto v237;
     sys_rattle_dealloc(at(ptr, v8));
-v238:;
-    if (at(u64, v16 + 16) == 0) { v279 = 0; v280 = 1; goto v247; }
-    sys_rattle_dealloc(at(ptr, v16));
-    v279 = 0; v280 = 1; goto v247;
-v223:;
-    at(u16, v229 + (v230 << 1)) = v216;
-    u64 v233 = v230 + 1;
-    at(u64, v8 + 8) = v233;
-    v212 = v233; v215 = v229;
-v213:;
-    u16 v217 = (u16)(v216 + 1);
-    if (!(v217 == v205)) { v211 = v212; v214 = v215; v216 = v217; goto v210; }
-    v244 = at(u64, v8 + 16) == 0; v245 = v212; v246 = at(ptr, v8);
-v207:;
-    v248 = v246; v249 = v245; v250 = v244;
+v237:;
+    if (at(u64, v15 + 16) == 0) { v280 = 0; v281 = 1; goto v248; }
+    sys_rattle_dealloc(at(ptr, v15));
+    v280 = 0; v281 = 1; goto v248;
+v222:;
+    at(u16, v228 + (v229 << 1)) = v215;
+    u64 v232 = v229 + 1;
+    at(u64, v8 + 8) = v232;
+    v211 = v232; v214 = v228;
+v212:;
+    u16 v216 = (u16)(v215 + 1);
+    if (!(v216 == v204)) { v210 = v211; v213 = v214; v215 = v216; goto v209; }
+    v244 = at(ptr, v0 + 8); v245 = at(u64, v8 + 16) == 0; v246 = v211; v247 = at(ptr, v8);
+v206:;
+    v249 = v244; v250 = v247; v251 = v246; v252 = v245;
 v198:;
-    u8 *v251 = at(ptr, v0 + 8);
-    u8 *v252 = at(ptr_1, v251);
-    u64 v254 = at(u64_1, v251 + 8);
+    u8 *v253 = at(ptr_1, v249);
+    u64 v255 = at(u64_1, v249 + 8);
     memset(v5, 0, 328u);
     at(u64, v6) = 1;
-    at(ptr, v6 + 8) = v248;
-    at(u64, v6 + 16) = v249;
-    font_subset_kind_source_CutOfKind_new_991b(v5, v1, 1, v16, v6);
-    u8 v257 = at(u8, v5);
-    if (!(v257 == 0)) { v266 = 0; goto v260; }
+    at(ptr, v6 + 8) = v250;
+    at(u64, v6 + 16) = v251;
+    font_subset_kind_source_CutOfKind_new_991b(v5, v1, 1, v15, v6);
+    u8 v258 = at(u8, v5);
+    if (!(v258 == 0)) { v267 = 0; goto v261; }
     memcpy(v4, v5 + 8, 320u);
-    u8 v265 = (u8)(font_subset_forms_form_of_file(at(u8, v1), v4, v252, v254) != 0);
+    u8 v266 = (u8)(font_subset_forms_form_of_file(at(u8, v1), v4, v253, v255) != 0);
     memcpy(v7, v4, 320u);
     font_subset_kind_source_CutOfKind_drop_3cda(v7);
-    v266 = v265;
-v260:;
-    if (v250) goto v267;
-    sys_rattle_dealloc(v248);
-v267:;
-    if (at(u64, v16 + 16) == 0) { v279 = v266; v280 = v257; goto v247; }
-    sys_rattle_dealloc(at(ptr, v16));
-    v279 = v266; v280 = v257; goto v247;
-v24:;
-    v279 = 0; v280 = 1;
-v247:;
-    return (u8_u8){v280, v279};
+    v267 = v266;
+v261:;
+    if (v252) goto v268;
+    sys_rattle_dealloc(v250);
+v268:;
+    if (at(u64, v15 + 16) == 0) { v280 = v267; v281 = v258; goto v248; }
+    sys_rattle_dealloc(at(ptr, v15));
+    v280 = v267; v281 = v258; goto v248;
+v23:;
+    v280 = 0; v281 = 1;
+v248:;
+    return (u8_u8){v281, v280};
 }
 
 void font_subset_font_of_kind_FontOfKind_drop_b0ec(u8 *v0) {
@@ -3501,18 +3753,31 @@ v8:;
 }
 
 void font_subset_font_of_kind_FontOfKind_open_25ca(u8 *v0, u8 v1, u8 *v2) {
-    _Alignas(8) u8 v4[16], v5[16], v6[16], v7[16], v8[16], v9[24], v10[16], v11[16], v12[16], v13[16], v14[16], v15[24], v22[64], v23[64], v24[64], v25[64], v26[64], v27[16], v28[16], v29[16], v30[16], v31[16], v32[24], v39[16], v40[16], v41[16], v42[16], v43[16], v44[24], v47[16], v48[16], v49[16], v50[16], v51[16], v52[24], v53[16], v54[16], v55[16], v56[16], v57[16], v58[24], v59[312], v60[16], v61[16], v62[16], v63[16], v64[16], v65[24], v66[16], v67[16], v68[16], v69[16], v70[16], v71[24], v72[88], v73[288], v74[72], v75[312], v76[288], v77[72];
-    u8 v16[16], v17[16], v18[16], v19[16], v20[16], v21[24], v33[16], v34[16], v35[16], v36[16], v37[16], v38[24], v45[6], v46[6], v98, v99, *v240, *v243, *v248, *v253, *v258, *v265, *v268, *v273, *v278, *v283, *v291, *v294, *v299, *v304, *v309, *v317, *v320, *v325, *v330, *v335, *v342, *v345, *v350, *v355, *v360, v371, v372, *v376, *v379, *v384, *v389, *v394, *v404, *v407, *v412, *v417, *v422, v429, v479, v480, v488, v489;
-    u32 v100, v370, v373, v403, v428, v477, v478, v481, v486, v487, v490;
-    flag v239, v315, v369;
-    u64 v241, v242, v244, v245, v246, v247, v249, v250, v251, v252, v254, v255, v256, v257, v259, v260, v261, v262, v266, v267, v269, v270, v271, v272, v274, v275, v276, v277, v279, v280, v281, v282, v284, v285, v286, v287, v292, v293, v295, v296, v297, v298, v300, v301, v302, v303, v305, v306, v307, v308, v310, v311, v312, v313, v314, v316, v318, v319, v321, v322, v323, v324, v326, v327, v328, v329, v331, v332, v333, v334, v336, v337, v338, v339, v343, v344, v346, v347, v348, v349, v351, v352, v353, v354, v356, v357, v358, v359, v361, v362, v363, v364, v365, v374, v375, v377, v378, v380, v381, v382, v383, v385, v386, v387, v388, v390, v391, v392, v393, v395, v396, v397, v398, v405, v406, v408, v409, v410, v411, v413, v414, v415, v416, v418, v419, v420, v421, v423, v424, v425, v426, v427, v430, v482, v483, v484, v485, v491, v492, v493, v494;
-    memset(v76, 0, 288u);
-    memset(v77, 0, 72u);
-    if (!(v1 < 2)) goto v80;
-    u64 v81 = (u64)v2;
-    memset(v76, 0, 288u);
-    v486 = 0; v487 = 0; v488 = v1; v489 = 0; v490 = 0; v491 = v81; v492 = v81 & 0xffffffff00000000u; v493 = 0; v494 = 0; goto v83;
-v80:;
+    _Alignas(8) u8 v4[16], v5[16], v6[16], v7[16], v8[16], v9[24], v10[16], v11[16], v12[16], v13[16], v14[16], v15[24], v22[64], v23[64], v24[64], v25[64], v26[64], v27[16], v28[16], v29[16], v30[16], v31[16], v32[24], v39[16], v40[16], v41[16], v42[16], v43[16], v44[24], v47[16], v48[16], v49[16], v50[16], v51[16], v52[24], v53[16], v54[16], v55[16], v56[16], v57[16], v58[24], v59[312], v60[16], v61[16], v62[16], v63[16], v64[16], v65[24], v66[16], v67[16], v68[16], v69[16], v70[16], v71[24], v72[168], v73[288], v74[160], v75[312], v76[312], v77[168], v78[288], v79[160], v80[160];
+    u8 v16[16], v17[16], v18[16], v19[16], v20[16], v21[24], v33[16], v34[16], v35[16], v36[16], v37[16], v38[24], v45[6], v46[6], v108, v109, *v250, *v253, *v258, *v263, *v268, *v275, *v278, *v283, *v288, *v293, *v301, *v304, *v309, *v314, *v319, *v327, *v330, *v335, *v340, *v345, *v352, *v355, *v360, *v365, *v370, v381, v382, *v386, *v389, *v394, *v399, *v404, *v414, *v417, *v422, *v427, *v432, v439, v486, v487, v494, v495;
+    u32 v110, v380, v383, v413, v438, v484, v485, v488, v492, v493, v496;
+    flag v249, v325, v379;
+    u64 v251, v252, v254, v255, v256, v257, v259, v260, v261, v262, v264, v265, v266, v267, v269, v270, v271, v272, v276, v277, v279, v280, v281, v282, v284, v285, v286, v287, v289, v290, v291, v292, v294, v295, v296, v297, v302, v303, v305, v306, v307, v308, v310, v311, v312, v313, v315, v316, v317, v318, v320, v321, v322, v323, v324, v326, v328, v329, v331, v332, v333, v334, v336, v337, v338, v339, v341, v342, v343, v344, v346, v347, v348, v349, v353, v354, v356, v357, v358, v359, v361, v362, v363, v364, v366, v367, v368, v369, v371, v372, v373, v374, v375, v384, v385, v387, v388, v390, v391, v392, v393, v395, v396, v397, v398, v400, v401, v402, v403, v405, v406, v407, v408, v415, v416, v418, v419, v420, v421, v423, v424, v425, v426, v428, v429, v430, v431, v433, v434, v435, v436, v437, v440, v489, v490, v491, v497, v498, v499;
+    memset(v78, 0, 288u);
+    memset(v79, 0, 160u);
+    memset(v80, 0, 160u);
+    if (!(v1 < 2)) goto v83;
+    at(u64, v76) = 0;
+    memset(v77, 0, 168u);
+    u64 v84 = (u64)v2;
+    at(u8, v76) = v1;
+    at(u64, v76 + 8) = v84;
+    memset(v76 + 16, 0, 296u);
+    divided_tables_all_tables_OpenTables_open(v77, v76);
+    if (!(at(u8, v77) == 1)) goto v90;
+    memcpy(v80, v77 + 8, 160u);
+    memset(v78, 0, 288u);
+    memcpy(v79, v80, 160u);
+    v492 = 0; v493 = 0; v494 = v1; v495 = 0; v496 = 0; v497 = v84; v498 = v84 & 0xffffffff00000000u; v499 = 0; goto v93;
+v90:;
+    __builtin_trap();
+    __builtin_trap();
+v83:;
     memset(v59, 0, 312u);
     memset(v60, 0, 16u);
     memset(v61, 0, 16u);
@@ -3526,9 +3791,9 @@ v80:;
     memset(v69, 0, 16u);
     memset(v70, 0, 16u);
     memset(v71, 0, 24u);
-    memset(v72, 0, 88u);
+    memset(v72, 0, 168u);
     memset(v73, 0, 288u);
-    memset(v74, 0, 72u);
+    memset(v74, 0, 160u);
     memset(v75, 0, 312u);
     memset(v47, 0, 16u);
     memset(v48, 0, 16u);
@@ -3542,24 +3807,24 @@ v80:;
     memset(v56, 0, 16u);
     memset(v57, 0, 16u);
     memset(v58, 0, 24u);
-    if (!(v1 == 3)) goto v86;
+    if (!(v1 == 3)) goto v96;
     memset(v45, 0, 6);
     sfnt_bytes_directory_Directory_check_tags(v45, v2, (u8 *)text_BASEGDEFGPOSGSUBHVARMVAR, 13u);
-    v98 = at(u8, v45); v99 = at(u8, v45 + 1); v100 = at(u32_1, v45 + 2); goto v92;
-v86:;
+    v108 = at(u8, v45); v109 = at(u8, v45 + 1); v110 = at(u32_1, v45 + 2); goto v102;
+v96:;
     memset(v46, 0, 6);
     sfnt_bytes_directory_Directory_check_tags(v46, v2, (u8 *)text_BASEGDEFGPOSGSUBkern, 5);
-    v98 = at(u8, v46); v99 = at(u8, v46 + 1); v100 = at(u32_1, v46 + 2);
-v92:;
-    if (!(v98 == 1)) goto v103;
+    v108 = at(u8, v46); v109 = at(u8, v46 + 1); v110 = at(u32_1, v46 + 2);
+v102:;
+    if (!(v108 == 1)) goto v113;
     memset(v66, 0, 16u);
     memset(v67, 0, 16u);
     memset(v68, 0, 16u);
     memset(v69, 0, 16u);
     memset(v70, 0, 16u);
     memset(v71, 0, 24u);
-    v369 = 0; v370 = 1; v371 = 0; v372 = v99; v373 = v100; v374 = 0; v375 = 0; v376 = (u8 *)0; v377 = 0; v378 = 0; v379 = (u8 *)0; v380 = 0; v381 = 0; v382 = 0; v383 = 0; v384 = (u8 *)0; v385 = 0; v386 = 0; v387 = 0; v388 = 0; v389 = (u8 *)0; v390 = 0; v391 = 0; v392 = 0; v393 = 0; v394 = (u8 *)0; v395 = 0; v396 = 0; v397 = 0; v398 = 0; goto v104;
-v103:;
+    v379 = 0; v380 = 1; v381 = 0; v382 = v109; v383 = v110; v384 = 0; v385 = 0; v386 = (u8 *)0; v387 = 0; v388 = 0; v389 = (u8 *)0; v390 = 0; v391 = 0; v392 = 0; v393 = 0; v394 = (u8 *)0; v395 = 0; v396 = 0; v397 = 0; v398 = 0; v399 = (u8 *)0; v400 = 0; v401 = 0; v402 = 0; v403 = 0; v404 = (u8 *)0; v405 = 0; v406 = 0; v407 = 0; v408 = 0; goto v114;
+v113:;
     memset(v27, 0, 16u);
     memset(v28, 0, 16u);
     memset(v29, 0, 16u);
@@ -3572,298 +3837,296 @@ v103:;
     memset(v36, 0, 16u);
     memset(v37, 0, 16u);
     memset(v38, 0, 24u);
-    if (!(v1 == 2)) { v291 = (u8 *)0; v292 = 0; v293 = 0; v294 = (u8 *)0; v295 = 0; v296 = 0; v297 = 0; v298 = 0; v299 = (u8 *)0; v300 = 0; v301 = 0; v302 = 0; v303 = 0; v304 = (u8 *)0; v305 = 0; v306 = 0; v307 = 0; v308 = 0; v309 = (u8 *)0; v310 = 0; v311 = 0; v312 = 0; v313 = 0; v314 = 0; goto v107; }
+    if (!(v1 == 2)) { v301 = (u8 *)0; v302 = 0; v303 = 0; v304 = (u8 *)0; v305 = 0; v306 = 0; v307 = 0; v308 = 0; v309 = (u8 *)0; v310 = 0; v311 = 0; v312 = 0; v313 = 0; v314 = (u8 *)0; v315 = 0; v316 = 0; v317 = 0; v318 = 0; v319 = (u8 *)0; v320 = 0; v321 = 0; v322 = 0; v323 = 0; v324 = 0; goto v117; }
     memset(v22, 0, 64u);
     memset(v23, 0, 64u);
     memset(v24, 0, 64u);
     memset(v25, 0, 64u);
     memset(v26, 0, 64u);
     font_subset_further_tables_FixedTable_of_1948(v22, v2, 16u);
-    u8 v110 = at(u8, v22 + 32);
-    if (!(at(u8, v22) == 0)) goto v113;
-    u8 *v118 = at(ptr, v22 + 40);
-    u64 v120 = at(u64, v22 + 48);
-    u64 v122 = at(u64, v22 + 56);
-    u64 v123 = (u64)at(u8, v22 + 8);
-    u64 v124 = (u64)v110;
+    u8 v120 = at(u8, v22 + 32);
+    if (!(at(u8, v22) == 0)) goto v123;
+    u8 *v128 = at(ptr, v22 + 40);
+    u64 v130 = at(u64, v22 + 48);
+    u64 v132 = at(u64, v22 + 56);
+    u64 v133 = (u64)at(u8, v22 + 8);
+    u64 v134 = (u64)v120;
     font_subset_further_tables_FixedTable_of_1948(v23, v2, 17u);
-    u8 v127 = at(u8, v23 + 32);
-    if (!(at(u8, v23) == 0)) goto v130;
-    u8 *v136 = at(ptr, v23 + 40);
-    u64 v138 = at(u64, v23 + 48);
-    u64 v140 = at(u64, v23 + 56);
-    u64 v141 = (u64)at(u8, v23 + 8);
-    u64 v142 = (u64)v127;
+    u8 v137 = at(u8, v23 + 32);
+    if (!(at(u8, v23) == 0)) goto v140;
+    u8 *v146 = at(ptr, v23 + 40);
+    u64 v148 = at(u64, v23 + 48);
+    u64 v150 = at(u64, v23 + 56);
+    u64 v151 = (u64)at(u8, v23 + 8);
+    u64 v152 = (u64)v137;
     font_subset_further_tables_FixedTable_of_1948(v24, v2, 18u);
-    u8 v145 = at(u8, v24 + 32);
-    if (!(at(u8, v24) == 0)) goto v148;
-    u8 *v158 = at(ptr, v24 + 40);
-    u64 v160 = at(u64, v24 + 48);
-    u64 v162 = at(u64, v24 + 56);
-    u64 v163 = (u64)at(u8, v24 + 8);
-    u64 v164 = (u64)v145;
+    u8 v155 = at(u8, v24 + 32);
+    if (!(at(u8, v24) == 0)) goto v158;
+    u8 *v168 = at(ptr, v24 + 40);
+    u64 v170 = at(u64, v24 + 48);
+    u64 v172 = at(u64, v24 + 56);
+    u64 v173 = (u64)at(u8, v24 + 8);
+    u64 v174 = (u64)v155;
     font_subset_further_tables_FixedTable_of_1948(v25, v2, 19u);
-    u8 v167 = at(u8, v25 + 8);
-    u8 v169 = at(u8, v25 + 32);
-    if (!(at(u8, v25) == 0)) goto v172;
-    u8 *v184 = at(ptr, v25 + 40);
-    u64 v186 = at(u64, v25 + 48);
-    u64 v188 = at(u64, v25 + 56);
+    u8 v177 = at(u8, v25 + 8);
+    u8 v179 = at(u8, v25 + 32);
+    if (!(at(u8, v25) == 0)) goto v182;
+    u8 *v194 = at(ptr, v25 + 40);
+    u64 v196 = at(u64, v25 + 48);
+    u64 v198 = at(u64, v25 + 56);
     font_subset_further_tables_FixedTable_of_1948(v26, v2, 20u);
-    if (!(at(u8, v26) == 0)) goto v192;
-    u64 v217 = (u64)at(u8, v26 + 8);
-    u64 v218 = (u64)at(u8, v26 + 32);
+    if (!(at(u8, v26) == 0)) goto v202;
+    u64 v227 = (u64)at(u8, v26 + 8);
+    u64 v228 = (u64)at(u8, v26 + 32);
     memcpy(v39, v22 + 16, 16u);
     memcpy(v40, v23 + 16, 16u);
     memcpy(v41, v24 + 16, 16u);
     memcpy(v42, v25 + 16, 16u);
     memcpy(v43, v26 + 16, 16u);
     memcpy(v44, v26 + 40, 24u);
-    v239 = 1; v240 = v2; v241 = v123; v242 = v124; v243 = v118; v244 = v120; v245 = v122; v246 = v141; v247 = v142; v248 = v136; v249 = v138; v250 = v140; v251 = v163; v252 = v164; v253 = v158; v254 = v160; v255 = v162; v256 = (u64)v167; v257 = (u64)v169; v258 = v184; v259 = v186; v260 = v188; v261 = v217; v262 = v218; goto v131;
-v192:;
-    if ((v169 != 1) ? 1 : (v188 == 0)) goto v222;
-    sys_rattle_dealloc(v184);
-v222:;
-    if ((v145 != 1) ? 1 : (v162 == 0)) goto v227;
-    sys_rattle_dealloc(v158);
-v227:;
-    if ((v127 != 1) ? 1 : (v140 == 0)) goto v232;
-    sys_rattle_dealloc(v136);
+    v249 = 1; v250 = v2; v251 = v133; v252 = v134; v253 = v128; v254 = v130; v255 = v132; v256 = v151; v257 = v152; v258 = v146; v259 = v148; v260 = v150; v261 = v173; v262 = v174; v263 = v168; v264 = v170; v265 = v172; v266 = (u64)v177; v267 = (u64)v179; v268 = v194; v269 = v196; v270 = v198; v271 = v227; v272 = v228; goto v141;
+v202:;
+    if ((v179 != 1) ? 1 : (v198 == 0)) goto v232;
+    sys_rattle_dealloc(v194);
 v232:;
-    if ((v110 != 1) ? 1 : (v122 == 0)) goto v237;
-    sys_rattle_dealloc(v118);
+    if ((v155 != 1) ? 1 : (v172 == 0)) goto v237;
+    sys_rattle_dealloc(v168);
 v237:;
+    if ((v137 != 1) ? 1 : (v150 == 0)) goto v242;
+    sys_rattle_dealloc(v146);
+v242:;
+    if ((v120 != 1) ? 1 : (v132 == 0)) goto v247;
+    sys_rattle_dealloc(v128);
+v247:;
     memset(v39, 0, 16u);
     memset(v40, 0, 16u);
     memset(v41, 0, 16u);
     memset(v42, 0, 16u);
     memset(v43, 0, 16u);
     memset(v44, 0, 24u);
-    v239 = 0; v240 = (u8 *)0; v241 = 0; v242 = 0; v243 = (u8 *)0; v244 = 0; v245 = 0; v246 = 0; v247 = 0; v248 = (u8 *)0; v249 = 0; v250 = 0; v251 = 0; v252 = 0; v253 = (u8 *)0; v254 = 0; v255 = 0; v256 = 0; v257 = 0; v258 = (u8 *)0; v259 = 0; v260 = 0; v261 = 0; v262 = 0; goto v131;
-v172:;
-    if ((v145 != 1) ? 1 : (v162 == 0)) goto v196;
-    sys_rattle_dealloc(v158);
-v196:;
-    if ((v127 != 1) ? 1 : (v140 == 0)) goto v201;
-    sys_rattle_dealloc(v136);
-v201:;
-    if ((v110 != 1) ? 1 : (v122 == 0)) goto v206;
-    sys_rattle_dealloc(v118);
+    v249 = 0; v250 = (u8 *)0; v251 = 0; v252 = 0; v253 = (u8 *)0; v254 = 0; v255 = 0; v256 = 0; v257 = 0; v258 = (u8 *)0; v259 = 0; v260 = 0; v261 = 0; v262 = 0; v263 = (u8 *)0; v264 = 0; v265 = 0; v266 = 0; v267 = 0; v268 = (u8 *)0; v269 = 0; v270 = 0; v271 = 0; v272 = 0; goto v141;
+v182:;
+    if ((v155 != 1) ? 1 : (v172 == 0)) goto v206;
+    sys_rattle_dealloc(v168);
 v206:;
+    if ((v137 != 1) ? 1 : (v150 == 0)) goto v211;
+    sys_rattle_dealloc(v146);
+v211:;
+    if ((v120 != 1) ? 1 : (v132 == 0)) goto v216;
+    sys_rattle_dealloc(v128);
+v216:;
     memset(v39, 0, 16u);
     memset(v40, 0, 16u);
     memset(v41, 0, 16u);
     memset(v42, 0, 16u);
     memset(v43, 0, 16u);
     memset(v44, 0, 24u);
-    v239 = 0; v240 = (u8 *)0; v241 = 0; v242 = 0; v243 = (u8 *)0; v244 = 0; v245 = 0; v246 = 0; v247 = 0; v248 = (u8 *)0; v249 = 0; v250 = 0; v251 = 0; v252 = 0; v253 = (u8 *)0; v254 = 0; v255 = 0; v256 = 0; v257 = 0; v258 = (u8 *)0; v259 = 0; v260 = 0; v261 = 0; v262 = 0; goto v131;
-v148:;
-    if ((v127 != 1) ? 1 : (v140 == 0)) goto v176;
-    sys_rattle_dealloc(v136);
-v176:;
-    if ((v110 != 1) ? 1 : (v122 == 0)) goto v181;
-    sys_rattle_dealloc(v118);
-v181:;
+    v249 = 0; v250 = (u8 *)0; v251 = 0; v252 = 0; v253 = (u8 *)0; v254 = 0; v255 = 0; v256 = 0; v257 = 0; v258 = (u8 *)0; v259 = 0; v260 = 0; v261 = 0; v262 = 0; v263 = (u8 *)0; v264 = 0; v265 = 0; v266 = 0; v267 = 0; v268 = (u8 *)0; v269 = 0; v270 = 0; v271 = 0; v272 = 0; goto v141;
+v158:;
+    if ((v137 != 1) ? 1 : (v150 == 0)) goto v186;
+    sys_rattle_dealloc(v146);
+v186:;
+    if ((v120 != 1) ? 1 : (v132 == 0)) goto v191;
+    sys_rattle_dealloc(v128);
+v191:;
     memset(v39, 0, 16u);
     memset(v40, 0, 16u);
     memset(v41, 0, 16u);
     memset(v42, 0, 16u);
     memset(v43, 0, 16u);
     memset(v44, 0, 24u);
-    v239 = 0; v240 = (u8 *)0; v241 = 0; v242 = 0; v243 = (u8 *)0; v244 = 0; v245 = 0; v246 = 0; v247 = 0; v248 = (u8 *)0; v249 = 0; v250 = 0; v251 = 0; v252 = 0; v253 = (u8 *)0; v254 = 0; v255 = 0; v256 = 0; v257 = 0; v258 = (u8 *)0; v259 = 0; v260 = 0; v261 = 0; v262 = 0; goto v131;
-v130:;
-    if ((v110 != 1) ? 1 : (v122 == 0)) goto v152;
-    sys_rattle_dealloc(v118);
-v152:;
+    v249 = 0; v250 = (u8 *)0; v251 = 0; v252 = 0; v253 = (u8 *)0; v254 = 0; v255 = 0; v256 = 0; v257 = 0; v258 = (u8 *)0; v259 = 0; v260 = 0; v261 = 0; v262 = 0; v263 = (u8 *)0; v264 = 0; v265 = 0; v266 = 0; v267 = 0; v268 = (u8 *)0; v269 = 0; v270 = 0; v271 = 0; v272 = 0; goto v141;
+v140:;
+    if ((v120 != 1) ? 1 : (v132 == 0)) goto v162;
+    sys_rattle_dealloc(v128);
+v162:;
     memset(v39, 0, 16u);
     memset(v40, 0, 16u);
     memset(v41, 0, 16u);
     memset(v42, 0, 16u);
     memset(v43, 0, 16u);
     memset(v44, 0, 24u);
-    v239 = 0; v240 = (u8 *)0; v241 = 0; v242 = 0; v243 = (u8 *)0; v244 = 0; v245 = 0; v246 = 0; v247 = 0; v248 = (u8 *)0; v249 = 0; v250 = 0; v251 = 0; v252 = 0; v253 = (u8 *)0; v254 = 0; v255 = 0; v256 = 0; v257 = 0; v258 = (u8 *)0; v259 = 0; v260 = 0; v261 = 0; v262 = 0; goto v131;
-v113:;
+    v249 = 0; v250 = (u8 *)0; v251 = 0; v252 = 0; v253 = (u8 *)0; v254 = 0; v255 = 0; v256 = 0; v257 = 0; v258 = (u8 *)0; v259 = 0; v260 = 0; v261 = 0; v262 = 0; v263 = (u8 *)0; v264 = 0; v265 = 0; v266 = 0; v267 = 0; v268 = (u8 *)0; v269 = 0; v270 = 0; v271 = 0; v272 = 0; goto v141;
+v123:;
     memset(v39, 0, 16u);
     memset(v40, 0, 16u);
     memset(v41, 0, 16u);
     memset(v42, 0, 16u);
     memset(v43, 0, 16u);
     memset(v44, 0, 24u);
-    v239 = 0; v240 = (u8 *)0; v241 = 0; v242 = 0; v243 = (u8 *)0; v244 = 0; v245 = 0; v246 = 0; v247 = 0; v248 = (u8 *)0; v249 = 0; v250 = 0; v251 = 0; v252 = 0; v253 = (u8 *)0; v254 = 0; v255 = 0; v256 = 0; v257 = 0; v258 = (u8 *)0; v259 = 0; v260 = 0; v261 = 0; v262 = 0;
-v131:;
+    v249 = 0; v250 = (u8 *)0; v251 = 0; v252 = 0; v253 = (u8 *)0; v254 = 0; v255 = 0; v256 = 0; v257 = 0; v258 = (u8 *)0; v259 = 0; v260 = 0; v261 = 0; v262 = 0; v263 = (u8 *)0; v264 = 0; v265 = 0; v266 = 0; v267 = 0; v268 = (u8 *)0; v269 = 0; v270 = 0; v271 = 0; v272 = 0;
+v141:;
     memset(v16, 0, 16u);
     memset(v17, 0, 16u);
     memset(v18, 0, 16u);
     memset(v19, 0, 16u);
     memset(v20, 0, 16u);
     memset(v21, 0, 24u);
-    if (!v239) { v265 = (u8 *)0; v266 = 0; v267 = 0; v268 = (u8 *)0; v269 = 0; v270 = 0; v271 = 0; v272 = 0; v273 = (u8 *)0; v274 = 0; v275 = 0; v276 = 0; v277 = 0; v278 = (u8 *)0; v279 = 0; v280 = 0; v281 = 0; v282 = 0; v283 = (u8 *)0; v284 = 0; v285 = 0; v286 = 0; v287 = 0; goto v264; }
+    if (!v249) { v275 = (u8 *)0; v276 = 0; v277 = 0; v278 = (u8 *)0; v279 = 0; v280 = 0; v281 = 0; v282 = 0; v283 = (u8 *)0; v284 = 0; v285 = 0; v286 = 0; v287 = 0; v288 = (u8 *)0; v289 = 0; v290 = 0; v291 = 0; v292 = 0; v293 = (u8 *)0; v294 = 0; v295 = 0; v296 = 0; v297 = 0; goto v274; }
     memcpy(v16, v39, 16u);
     memcpy(v17, v40, 16u);
     memcpy(v18, v41, 16u);
     memcpy(v19, v42, 16u);
     memcpy(v20, v43, 16u);
     memcpy(v21, v44, 24u);
-    v265 = v240; v266 = v241; v267 = v242; v268 = v243; v269 = v244; v270 = v245; v271 = v246; v272 = v247; v273 = v248; v274 = v249; v275 = v250; v276 = v251; v277 = v252; v278 = v253; v279 = v254; v280 = v255; v281 = v256; v282 = v257; v283 = v258; v284 = v259; v285 = v260; v286 = v261; v287 = v262;
-v264:;
+    v275 = v250; v276 = v251; v277 = v252; v278 = v253; v279 = v254; v280 = v255; v281 = v256; v282 = v257; v283 = v258; v284 = v259; v285 = v260; v286 = v261; v287 = v262; v288 = v263; v289 = v264; v290 = v265; v291 = v266; v292 = v267; v293 = v268; v294 = v269; v295 = v270; v296 = v271; v297 = v272;
+v274:;
     memcpy(v33, v16, 16u);
     memcpy(v34, v17, 16u);
     memcpy(v35, v18, 16u);
     memcpy(v36, v19, 16u);
     memcpy(v37, v20, 16u);
     memcpy(v38, v21, 24u);
-    if (!v239) goto v289;
+    if (!v249) goto v299;
     memcpy(v27, v33, 16u);
     memcpy(v28, v34, 16u);
     memcpy(v29, v35, 16u);
     memcpy(v30, v36, 16u);
     memcpy(v31, v37, 16u);
     memcpy(v32, v38, 24u);
-    v291 = v265; v292 = v266; v293 = v267; v294 = v268; v295 = v269; v296 = v270; v297 = v271; v298 = v272; v299 = v273; v300 = v274; v301 = v275; v302 = v276; v303 = v277; v304 = v278; v305 = v279; v306 = v280; v307 = v281; v308 = v282; v309 = v283; v310 = v284; v311 = v285; v312 = v286; v313 = v287; v314 = 1; goto v107;
-v289:;
+    v301 = v275; v302 = v276; v303 = v277; v304 = v278; v305 = v279; v306 = v280; v307 = v281; v308 = v282; v309 = v283; v310 = v284; v311 = v285; v312 = v286; v313 = v287; v314 = v288; v315 = v289; v316 = v290; v317 = v291; v318 = v292; v319 = v293; v320 = v294; v321 = v295; v322 = v296; v323 = v297; v324 = 1; goto v117;
+v299:;
     memset(v53, 0, 16u);
     memset(v54, 0, 16u);
     memset(v55, 0, 16u);
     memset(v56, 0, 16u);
     memset(v57, 0, 16u);
     memset(v58, 0, 24u);
-    v315 = 0; v316 = 0; v317 = (u8 *)0; v318 = 0; v319 = 0; v320 = (u8 *)0; v321 = 0; v322 = 0; v323 = 0; v324 = 0; v325 = (u8 *)0; v326 = 0; v327 = 0; v328 = 0; v329 = 0; v330 = (u8 *)0; v331 = 0; v332 = 0; v333 = 0; v334 = 0; v335 = (u8 *)0; v336 = 0; v337 = 0; v338 = 0; v339 = 0; goto v290;
-v107:;
+    v325 = 0; v326 = 0; v327 = (u8 *)0; v328 = 0; v329 = 0; v330 = (u8 *)0; v331 = 0; v332 = 0; v333 = 0; v334 = 0; v335 = (u8 *)0; v336 = 0; v337 = 0; v338 = 0; v339 = 0; v340 = (u8 *)0; v341 = 0; v342 = 0; v343 = 0; v344 = 0; v345 = (u8 *)0; v346 = 0; v347 = 0; v348 = 0; v349 = 0; goto v300;
+v117:;
     memcpy(v53, v27, 16u);
     memcpy(v54, v28, 16u);
     memcpy(v55, v29, 16u);
     memcpy(v56, v30, 16u);
     memcpy(v57, v31, 16u);
     memcpy(v58, v32, 24u);
-    v315 = 1; v316 = v314; v317 = v291; v318 = v292; v319 = v293; v320 = v294; v321 = v295; v322 = v296; v323 = v297; v324 = v298; v325 = v299; v326 = v300; v327 = v301; v328 = v302; v329 = v303; v330 = v304; v331 = v305; v332 = v306; v333 = v307; v334 = v308; v335 = v309; v336 = v310; v337 = v311; v338 = v312; v339 = v313;
-v290:;
+    v325 = 1; v326 = v324; v327 = v301; v328 = v302; v329 = v303; v330 = v304; v331 = v305; v332 = v306; v333 = v307; v334 = v308; v335 = v309; v336 = v310; v337 = v311; v338 = v312; v339 = v313; v340 = v314; v341 = v315; v342 = v316; v343 = v317; v344 = v318; v345 = v319; v346 = v320; v347 = v321; v348 = v322; v349 = v323;
+v300:;
     memset(v10, 0, 16u);
     memset(v11, 0, 16u);
     memset(v12, 0, 16u);
     memset(v13, 0, 16u);
     memset(v14, 0, 16u);
     memset(v15, 0, 24u);
-    if (!v315) { v342 = (u8 *)0; v343 = 0; v344 = 0; v345 = (u8 *)0; v346 = 0; v347 = 0; v348 = 0; v349 = 0; v350 = (u8 *)0; v351 = 0; v352 = 0; v353 = 0; v354 = 0; v355 = (u8 *)0; v356 = 0; v357 = 0; v358 = 0; v359 = 0; v360 = (u8 *)0; v361 = 0; v362 = 0; v363 = 0; v364 = 0; v365 = 0; goto v341; }
+    if (!v325) { v352 = (u8 *)0; v353 = 0; v354 = 0; v355 = (u8 *)0; v356 = 0; v357 = 0; v358 = 0; v359 = 0; v360 = (u8 *)0; v361 = 0; v362 = 0; v363 = 0; v364 = 0; v365 = (u8 *)0; v366 = 0; v367 = 0; v368 = 0; v369 = 0; v370 = (u8 *)0; v371 = 0; v372 = 0; v373 = 0; v374 = 0; v375 = 0; goto v351; }
     memcpy(v10, v53, 16u);
     memcpy(v11, v54, 16u);
     memcpy(v12, v55, 16u);
     memcpy(v13, v56, 16u);
     memcpy(v14, v57, 16u);
     memcpy(v15, v58, 24u);
-    v342 = v317; v343 = v318; v344 = v319; v345 = v320; v346 = v321; v347 = v322; v348 = v323; v349 = v324; v350 = v325; v351 = v326; v352 = v327; v353 = v328; v354 = v329; v355 = v330; v356 = v331; v357 = v332; v358 = v333; v359 = v334; v360 = v335; v361 = v336; v362 = v337; v363 = v338; v364 = v339; v365 = v316;
-v341:;
+    v352 = v327; v353 = v328; v354 = v329; v355 = v330; v356 = v331; v357 = v332; v358 = v333; v359 = v334; v360 = v335; v361 = v336; v362 = v337; v363 = v338; v364 = v339; v365 = v340; v366 = v341; v367 = v342; v368 = v343; v369 = v344; v370 = v345; v371 = v346; v372 = v347; v373 = v348; v374 = v349; v375 = v326;
+v351:;
     memcpy(v47, v10, 16u);
     memcpy(v48, v11, 16u);
     memcpy(v49, v12, 16u);
     memcpy(v50, v13, 16u);
     memcpy(v51, v14, 16u);
     memcpy(v52, v15, 24u);
-    if (!v315) goto v367;
+    if (!v325) goto v377;
     memcpy(v66, v47, 16u);
     memcpy(v67, v48, 16u);
     memcpy(v68, v49, 16u);
     memcpy(v69, v50, 16u);
     memcpy(v70, v51, 16u);
     memcpy(v71, v52, 24u);
-    v369 = 1; v370 = 0; v371 = v1; v372 = 0; v373 = 0; v374 = (u64)v2; v375 = v365; v376 = v342; v377 = v343; v378 = v344; v379 = v345; v380 = v346; v381 = v347; v382 = v348; v383 = v349; v384 = v350; v385 = v351; v386 = v352; v387 = v353; v388 = v354; v389 = v355; v390 = v356; v391 = v357; v392 = v358; v393 = v359; v394 = v360; v395 = v361; v396 = v362; v397 = v363; v398 = v364; goto v104;
-v367:;
+    v379 = 1; v380 = 0; v381 = v1; v382 = 0; v383 = 0; v384 = (u64)v2; v385 = v375; v386 = v352; v387 = v353; v388 = v354; v389 = v355; v390 = v356; v391 = v357; v392 = v358; v393 = v359; v394 = v360; v395 = v361; v396 = v362; v397 = v363; v398 = v364; v399 = v365; v400 = v366; v401 = v367; v402 = v368; v403 = v369; v404 = v370; v405 = v371; v406 = v372; v407 = v373; v408 = v374; goto v114;
+v377:;
     memset(v66, 0, 16u);
     memset(v67, 0, 16u);
     memset(v68, 0, 16u);
     memset(v69, 0, 16u);
     memset(v70, 0, 16u);
     memset(v71, 0, 24u);
-    v369 = 0; v370 = 0; v371 = 0; v372 = 0; v373 = 0; v374 = 0; v375 = 0; v376 = (u8 *)0; v377 = 0; v378 = 0; v379 = (u8 *)0; v380 = 0; v381 = 0; v382 = 0; v383 = 0; v384 = (u8 *)0; v385 = 0; v386 = 0; v387 = 0; v388 = 0; v389 = (u8 *)0; v390 = 0; v391 = 0; v392 = 0; v393 = 0; v394 = (u8 *)0; v395 = 0; v396 = 0; v397 = 0; v398 = 0;
-v104:;
+    v379 = 0; v380 = 0; v381 = 0; v382 = 0; v383 = 0; v384 = 0; v385 = 0; v386 = (u8 *)0; v387 = 0; v388 = 0; v389 = (u8 *)0; v390 = 0; v391 = 0; v392 = 0; v393 = 0; v394 = (u8 *)0; v395 = 0; v396 = 0; v397 = 0; v398 = 0; v399 = (u8 *)0; v400 = 0; v401 = 0; v402 = 0; v403 = 0; v404 = (u8 *)0; v405 = 0; v406 = 0; v407 = 0; v408 = 0;
+v114:;
     memset(v4, 0, 16u);
     memset(v5, 0, 16u);
     memset(v6, 0, 16u);
     memset(v7, 0, 16u);
     memset(v8, 0, 16u);
     memset(v9, 0, 24u);
-    if (!v369) goto v400;
+    if (!v379) goto v410;
     memcpy(v4, v66, 16u);
     memcpy(v5, v67, 16u);
     memcpy(v6, v68, 16u);
     memcpy(v7, v69, 16u);
     memcpy(v8, v70, 16u);
     memcpy(v9, v71, 24u);
-    v403 = 0; v404 = v376; v405 = v377; v406 = v378; v407 = v379; v408 = v380; v409 = v381; v410 = v382; v411 = v383; v412 = v384; v413 = v385; v414 = v386; v415 = v387; v416 = v388; v417 = v389; v418 = v390; v419 = v391; v420 = v392; v421 = v393; v422 = v394; v423 = v395; v424 = v396; v425 = v397; v426 = v398; v427 = v374; v428 = 0; v429 = 0; v430 = v375; goto v401;
-v400:;
-    v403 = v373; v404 = (u8 *)0; v405 = 0; v406 = 0; v407 = (u8 *)0; v408 = 0; v409 = 0; v410 = 0; v411 = 0; v412 = (u8 *)0; v413 = 0; v414 = 0; v415 = 0; v416 = 0; v417 = (u8 *)0; v418 = 0; v419 = 0; v420 = 0; v421 = 0; v422 = (u8 *)0; v423 = 0; v424 = 0; v425 = 0; v426 = 0; v427 = v374 & 0xffffffffu; v428 = v370; v429 = v372; v430 = 0;
-v401:;
+    v413 = 0; v414 = v386; v415 = v387; v416 = v388; v417 = v389; v418 = v390; v419 = v391; v420 = v392; v421 = v393; v422 = v394; v423 = v395; v424 = v396; v425 = v397; v426 = v398; v427 = v399; v428 = v400; v429 = v401; v430 = v402; v431 = v403; v432 = v404; v433 = v405; v434 = v406; v435 = v407; v436 = v408; v437 = v384; v438 = 0; v439 = 0; v440 = v385; goto v411;
+v410:;
+    v413 = v383; v414 = (u8 *)0; v415 = 0; v416 = 0; v417 = (u8 *)0; v418 = 0; v419 = 0; v420 = 0; v421 = 0; v422 = (u8 *)0; v423 = 0; v424 = 0; v425 = 0; v426 = 0; v427 = (u8 *)0; v428 = 0; v429 = 0; v430 = 0; v431 = 0; v432 = (u8 *)0; v433 = 0; v434 = 0; v435 = 0; v436 = 0; v437 = v384 & 0xffffffffu; v438 = v380; v439 = v382; v440 = 0;
+v411:;
     memcpy(v60, v4, 16u);
     memcpy(v61, v5, 16u);
     memcpy(v62, v6, 16u);
     memcpy(v63, v7, 16u);
     memcpy(v64, v8, 16u);
     memcpy(v65, v9, 24u);
-    if (!v369) goto v432;
-    at(u8, v59) = v371;
-    at(u64, v59 + 8) = v427;
-    at(u64, v59 + 16) = v430;
-    at(ptr, v59 + 24) = v404;
-    at(u64, v59 + 32) = v405;
+    if (!v379) goto v442;
+    at(u8, v59) = v381;
+    at(u64, v59 + 8) = v437;
+    at(u64, v59 + 16) = v440;
+    at(ptr, v59 + 24) = v414;
+    at(u64, v59 + 32) = v415;
     memcpy(v59 + 40, v60, 16u);
-    at(u64, v59 + 56) = v406;
-    at(ptr, v59 + 64) = v407;
-    at(u64, v59 + 72) = v408;
-    at(u64, v59 + 80) = v409;
-    at(u64, v59 + 88) = v410;
+    at(u64, v59 + 56) = v416;
+    at(ptr, v59 + 64) = v417;
+    at(u64, v59 + 72) = v418;
+    at(u64, v59 + 80) = v419;
+    at(u64, v59 + 88) = v420;
     memcpy(v59 + 96, v61, 16u);
-    at(u64, v59 + 112) = v411;
-    at(ptr, v59 + 120) = v412;
-    at(u64, v59 + 128) = v413;
-    at(u64, v59 + 136) = v414;
-    at(u64, v59 + 144) = v415;
+    at(u64, v59 + 112) = v421;
+    at(ptr, v59 + 120) = v422;
+    at(u64, v59 + 128) = v423;
+    at(u64, v59 + 136) = v424;
+    at(u64, v59 + 144) = v425;
     memcpy(v59 + 152, v62, 16u);
-    at(u64, v59 + 168) = v416;
-    at(ptr, v59 + 176) = v417;
-    at(u64, v59 + 184) = v418;
-    at(u64, v59 + 192) = v419;
-    at(u64, v59 + 200) = v420;
+    at(u64, v59 + 168) = v426;
+    at(ptr, v59 + 176) = v427;
+    at(u64, v59 + 184) = v428;
+    at(u64, v59 + 192) = v429;
+    at(u64, v59 + 200) = v430;
     memcpy(v59 + 208, v63, 16u);
-    at(u64, v59 + 224) = v421;
-    at(ptr, v59 + 232) = v422;
-    at(u64, v59 + 240) = v423;
-    at(u64, v59 + 248) = v424;
-    at(u64, v59 + 256) = v425;
+    at(u64, v59 + 224) = v431;
+    at(ptr, v59 + 232) = v432;
+    at(u64, v59 + 240) = v433;
+    at(u64, v59 + 248) = v434;
+    at(u64, v59 + 256) = v435;
     memcpy(v59 + 264, v64, 16u);
-    at(u64, v59 + 280) = v426;
+    at(u64, v59 + 280) = v436;
     memcpy(v59 + 288, v65, 24u);
-    font_subset_further_tables_FurtherTables_variations(v72, v59);
-    if (!(at(u8, v72) == 0)) goto v467;
-    u64 v472 = (u64)at(u8, v72 + 8);
-    memcpy(v76, v59 + 24, 288u);
-    memcpy(v77, v72 + 16, 72u);
-    v477 = 0; v478 = 0; v479 = v371; v480 = 0; v481 = 0; v482 = v427; v483 = v427 & 0xffffffff00000000u; v484 = v430; v485 = v472; goto v468;
-v467:;
-    at(u8, v75) = v371;
-    at(u64, v75 + 8) = v427;
-    at(u64, v75 + 16) = v430;
+    divided_tables_all_tables_OpenTables_open(v72, v59);
+    if (!(at(u8, v72) == 1)) goto v477;
+    memcpy(v78, v59 + 24, 288u);
+    memcpy(v79, v72 + 8, 160u);
+    v484 = 0; v485 = 0; v486 = v381; v487 = 0; v488 = 0; v489 = v437; v490 = v437 & 0xffffffff00000000u; v491 = v440; goto v478;
+v477:;
+    at(u8, v75) = v381;
+    at(u64, v75 + 8) = v437;
+    at(u64, v75 + 16) = v440;
     memcpy(v75 + 24, v59 + 24, 288u);
     font_subset_further_tables_FurtherTables_drop(v75);
-    memcpy(v76, v73, 288u);
-    memcpy(v77, v74, 72u);
-    v477 = 1; v478 = 1; v479 = 5; v480 = 0; v481 = 0; v482 = 0; v483 = 0; v484 = 0; v485 = 0; goto v468;
-v432:;
-    memset(v76, 0, 288u);
-    memset(v77, 0, 72u);
-    v477 = 1; v478 = v428; v479 = v371; v480 = v429; v481 = v403; v482 = v427; v483 = 0; v484 = 0; v485 = 0;
-v468:;
-    v486 = v477; v487 = v478; v488 = v479; v489 = v480; v490 = v481; v491 = v482; v492 = v483; v493 = v484; v494 = v485;
-v83:;
-    at(u32_1, v0) = v486;
-    at(u32_1, v0 + 4) = v487;
-    at(u8, v0 + 8) = v488;
-    at(u8, v0 + 9) = v489;
-    at(u32_1, v0 + 10) = v490;
+    memcpy(v78, v73, 288u);
+    memcpy(v79, v74, 160u);
+    v484 = 1; v485 = 1; v486 = 5; v487 = 0; v488 = 0; v489 = 0; v490 = 0; v491 = 0; goto v478;
+v442:;
+    memset(v78, 0, 288u);
+    memset(v79, 0, 160u);
+    v484 = 1; v485 = v438; v486 = v381; v487 = v439; v488 = v413; v489 = v437; v490 = 0; v491 = 0;
+v478:;
+    v492 = v484; v493 = v485; v494 = v486; v495 = v487; v496 = v488; v497 = v489; v498 = v490; v499 = v491;
+v93:;
+    at(u32_1, v0) = v492;
+    at(u32_1, v0 + 4) = v493;
+    at(u8, v0 + 8) = v494;
+    at(u8, v0 + 9) = v495;
+    at(u32_1, v0 + 10) = v496;
     at(u16_1, v0 + 14) = 0;
-    at(u64_1, v0 + 16) = v492 | (v491 & 0xffffffffu);
-    at(u64_1, v0 + 24) = v493;
-    memcpy(v0 + 32, v76, 288u);
-    at(u64_1, v0 + 320) = v494;
-    memcpy(v0 + 328, v77, 72u);
+    at(u64_1, v0 + 16) = v498 | (v497 & 0xffffffffu);
+    at(u64_1, v0 + 24) = v499;
+    memcpy(v0 + 32, v78, 288u);
+    memcpy(v0 + 320, v79, 160u);
     return;
 }
 
@@ -3878,7 +4141,7 @@ void font_subset_font_to_cut_FontToCut_numbers_beside_19bd(u8 *v0, u8 *v1, u8 *v
     u64 v13 = (u64)v12;
     u64 v15 = at(u64_1, v3 + 16);
     flag v19 = v10 == 1;
-    if (!(at(u8, v1 + 392) == 1)) goto v21;
+    if (!(at(u8, v1 + 472) == 1)) goto v21;
     if (!v19) { v546 = (u8 *)0; v547 = 0; v548 = 0; goto v23; }
     memset(v9, 0, 24u);
     u16 v85 = at(u16, at(ptr, v1 + 8) + 64);
@@ -3984,9 +4247,9 @@ v231:;
     at(u64, v6 + 8) = v247;
     u16 v250 = at(u16, v243 + (v247 << 1));
     u64 v251 = (u64)v250;
-    if (!(at(u64, v1 + 408) > v251)) { v246 = v247; v241 = v240; v244 = v243; goto v242; }
-    u8 *v255 = at(ptr, v1 + 400);
-    u8 *v256 = at(ptr, v1 + 424);
+    if (!(at(u64, v1 + 488) > v251)) { v246 = v247; v241 = v240; v244 = v243; goto v242; }
+    u8 *v255 = at(ptr, v1 + 480);
+    u8 *v256 = at(ptr, v1 + 504);
     if (v250 == 0) { v265 = 0; v266 = 0; goto v258; }
     u64 v260 = v251 << 2;
     v265 = v260; v266 = (u64)at(u32, v255 + (i64)v260 - 4);
@@ -4232,18 +4495,19 @@ v26:;
 }
 
 void font_subset_font_to_cut_FontToCut_open_4492(u8 *v0, u8 v1, flag v2, u8 *v3) {
-    _Alignas(4) u8 v5[1], v10[12], v18[16], v23[80], v24[16];
-    _Alignas(8) u8 v6[312], v7[312], v8[32], v9[24], v11[24], v12[304], v13[40], v14[24], v17[80], v19[400], v20[400];
+    _Alignas(4) u8 v5[1], v10[12], v18[16], v23[160], v24[16];
+    _Alignas(8) u8 v6[312], v7[312], v8[32], v9[24], v11[24], v12[304], v13[40], v14[24], v17[160], v19[480], v20[480];
     _Alignas(2) u8 v15[6], v21[6];
-    u8 v16[295], v22[295], *v104, *v152, *v285, *v323, *v356, *v358, v251, *v153, v367, v371, v372, v373, *v375, *v377, v399, v403, v404, v405, *v407, *v409;
-    u64 v155, v289, v304, v324, v327, v355, v357, v263, v374, v376, v378, v406, v408, v410;
-    u32 v302, v242, v252, v368, v369, v370, v400, v401, v402;
-    u16 v206, v207, v208, v240, v241;
+    u8 v16[295], v22[295], *v110, *v158, *v291, *v329, *v361, *v363, v257, *v159, v367, v371, v372, v373, *v375, *v377, v399, v403, v404, v405, *v407, *v409;
+    u64 v161, v295, v310, v330, v333, v360, v362, v269, v374, v376, v378, v406, v408, v410;
+    u32 v308, v248, v258, v368, v369, v370, v400, v401, v402;
+    u16 v212, v213, v214, v246, v247;
     memset(v18, 0, 16u);
-    memset(v19, 0, 400u);
+    memset(v19, 0, 480u);
+    memset(v20, 0, 480u);
     memset(v21, 0, 6);
     memset(v22, 0, 295u);
-    memset(v23, 0, 80u);
+    memset(v23, 0, 160u);
     memset(v24, 0, 16u);
     if (!v2) goto v26;
     font_subset_font_of_kind_FontOfKind_open_25ca(v20, v1, v3);
@@ -4254,205 +4518,205 @@ void font_subset_font_to_cut_FontToCut_open_4492(u8 *v0, u8 v1, flag v2, u8 *v3)
     u64 v62 = at(u64, v20 + 16);
     u8 v64 = at(u8, v20 + 24);
     memcpy(v16, v20 + 25, 295u);
-    memcpy(v17, v20 + 320, 80u);
+    memcpy(v17, v20 + 320, 160u);
     memset(v14, 0, 24u);
     font_subset_font_of_kind_FontOfKind_further_6e0a(v14, v20 + 8, 19u);
     u8 *v69 = at(ptr, v14 + 8);
     u64 v71 = at(u64, v14 + 16);
     flag v72 = at(u8, v14) != 1;
     memset(v13, 0, 40u);
-    if (v72 ? 1 : (v71 == 0)) { v355 = 0; v356 = v5; v357 = 0; v358 = v5; goto v75; }
+    if (v72 ? 1 : (v71 == 0)) { v360 = 0; v361 = v5; v362 = 0; v363 = v5; goto v75; }
     font_layout_layout_Layout_open(v13, v69, v71);
-    if (!(at(u8, v13) == 0)) goto v80;
-    u8 *v82 = at(ptr, v13 + 8);
-    u64 v84 = at(u64, v13 + 16);
-    u64 v86 = at(u64, v13 + 24);
-    u32 v88 = at(u32, v13 + 32);
-    u32 v90 = at(u32, v13 + 36);
-    u64 v91 = (u64)v88;
-    if (v88 == 0) { v104 = v5; goto v93; }
-    u64_u64 v97 = sys_rattle_alloc(v91 << 2, 2);
-    if (!(v97._0 & 1)) goto v101;
-    v104 = (u8 *)v97._1;
-v93:;
-    at(ptr, v11) = v104;
+    if (!(at(u8, v13) == 1)) goto v80;
+    u8 *v88 = at(ptr, v13 + 8);
+    u64 v90 = at(u64, v13 + 16);
+    u64 v92 = at(u64, v13 + 24);
+    u32 v94 = at(u32, v13 + 32);
+    u32 v96 = at(u32, v13 + 36);
+    u64 v97 = (u64)v94;
+    if (v94 == 0) { v110 = v5; goto v99; }
+    u64_u64 v103 = sys_rattle_alloc(v97 << 2, 2);
+    if (!(v103._0 & 1)) goto v107;
+    v110 = (u8 *)v103._1;
+v99:;
+    at(ptr, v11) = v110;
     at(u64, v11 + 8) = 0;
-    at(u64, v11 + 16) = v91;
-    u64 v110 = (u64)bswap16(at(u16_1, v82 + 8));
-    at(ptr, v12) = v82;
-    at(u64, v12 + 8) = v84;
-    at(u64, v12 + 16) = v110;
+    at(u64, v11 + 16) = v97;
+    u64 v116 = (u64)bswap16(at(u16_1, v88 + 8));
+    at(ptr, v12) = v88;
+    at(u64, v12 + 8) = v90;
+    at(u64, v12 + 16) = v116;
     at(u64, v12 + 24) = 0;
-    at(u64, v12 + 32) = v86;
-    at(ptr, v12 + 40) = v82;
-    at(u64, v12 + 48) = v84;
+    at(u64, v12 + 32) = v92;
+    at(ptr, v12 + 40) = v88;
+    at(u64, v12 + 48) = v90;
     memset(v12 + 56, 0, 40u);
-    at(ptr, v12 + 96) = v82;
-    at(u64, v12 + 104) = v84;
+    at(ptr, v12 + 96) = v88;
+    at(u64, v12 + 104) = v90;
     memset(v12 + 112, 0, 72u);
-    at(ptr, v12 + 184) = v82;
-    at(u64, v12 + 192) = v84;
+    at(ptr, v12 + 184) = v88;
+    at(u64, v12 + 192) = v90;
     memset(v12 + 200, 0, 48u);
-    at(ptr, v12 + 248) = v82;
-    at(u64, v12 + 256) = v84;
+    at(ptr, v12 + 248) = v88;
+    at(u64, v12 + 256) = v90;
     at(u64, v12 + 264) = 0;
     at(u16, v12 + 272) = 3;
     memset(v12 + 274, 0, 30u);
-    v152 = v104; v155 = 0;
-v151:;
+    v158 = v110; v161 = 0;
 v157:;
+v163:;
     memset(v10, 0, 12u);
     memset(v8, 0, 32u);
     at(u64, v9) = 0;
-    u64 v158 = at(u64, v12 + 296);
-    if (!(v158 == 0)) goto v161;
-    u64 v213 = at(u64, v12 + 240);
-    if (!(v213 == 0)) goto v216;
+    u64 v164 = at(u64, v12 + 296);
+    if (!(v164 == 0)) goto v167;
+    u64 v219 = at(u64, v12 + 240);
+    if (!(v219 == 0)) goto v222;
     font_layout_walk_Steps_next_part(v10, v12);
-    if (at(u8, v10) == 1) { v251 = at(u8, v10 + 4); v252 = at(u32_2, v10 + 6); goto v245; }
-    u8 *v270 = at(ptr, v11);
-    u64 v271 = at(u64, v11 + 16);
-    u64 v272 = (u64)v90;
-    flag v273 = v90 == 0;
-    if (v273) { v285 = v5; goto v274; }
-    u64 v276 = v272 << 2;
-    u64_u64 v278 = sys_rattle_alloc(v276, 4);
-    if (!(v278._0 & 1)) goto v282;
-    u8 *v284 = (u8 *)v278._1;
-    memset_any(v284, 0, v276);
-    v285 = v284;
-v274:;
-    flag v286 = v155 == 0;
-    if (v286) goto v287;
-    v289 = 0;
-v288:;
-    u64 v295 = ((u64)at(u16, v270 + (i64)(v289 << 2))) << 2;
-    at(u32, v285 + v295) = at(u32, v285 + v295) + 1;
-    u64 v290 = v289 + 1;
-    if (!(v290 == v155)) { v289 = v290; goto v288; }
-v287:;
-    if (v273) { v323 = v5; v324 = 0; goto v300; }
-    v302 = 0; v304 = 0;
-v301:;
-    u64 v306 = v304 << 2;
-    u32 v308 = at(u32, v285 + (i64)v306);
-    at(u32, v285 + (i64)v306) = v302;
-    u32 v303 = v308 + v302;
-    u64 v305 = v304 + 1;
-    if (!(v305 == v272)) { v302 = v303; v304 = v305; goto v301; }
-    u64 v311 = (u64)v303;
-    if (v303 == 0) { v323 = v5; v324 = 0; goto v300; }
-    u64 v314 = v311 << 1;
-    u64_u64 v316 = sys_rattle_alloc(v314, 2);
-    if (!(v316._0 & 1)) goto v320;
-    u8 *v322 = (u8 *)v316._1;
-    memset_any(v322, 0, v314);
-    v323 = v322; v324 = v311;
-v300:;
-    if (v286) goto v325;
-    v327 = 0;
-v326:;
-    u64 v329 = v327 << 2;
-    u64 v335 = ((u64)at(u16_1, v270 + (i64)v329)) << 2;
-    at(u16, v323 + (((u64)at(u32, v285 + v335)) << 1)) = at(u16_1, v270 + (i64)v329 + 2);
-    at(u32, v285 + v335) = at(u32, v285 + v335) + 1;
-    u64 v328 = v327 + 1;
-    if (!(v328 == v155)) { v327 = v328; goto v326; }
-v325:;
-    if (v271 == 0) { v355 = v324; v356 = v323; v357 = v272; v358 = v285; goto v75; }
-    sys_rattle_dealloc(v270);
-    v355 = v324; v356 = v323; v357 = v272; v358 = v285;
+    if (at(u8, v10) == 1) { v257 = at(u8, v10 + 4); v258 = at(u32_2, v10 + 6); goto v251; }
+    u8 *v276 = at(ptr, v11);
+    u64 v277 = at(u64, v11 + 16);
+    u64 v278 = (u64)v96;
+    flag v279 = v96 == 0;
+    if (v279) { v291 = v5; goto v280; }
+    u64 v282 = v278 << 2;
+    u64_u64 v284 = sys_rattle_alloc(v282, 4);
+    if (!(v284._0 & 1)) goto v288;
+    u8 *v290 = (u8 *)v284._1;
+    memset_any(v290, 0, v282);
+    v291 = v290;
+v280:;
+    flag v292 = v161 == 0;
+    if (v292) goto v293;
+    v295 = 0;
+v294:;
+    u64 v301 = ((u64)at(u16, v276 + (i64)(v295 << 2))) << 2;
+    at(u32, v291 + v301) = at(u32, v291 + v301) + 1;
+    u64 v296 = v295 + 1;
+    if (!(v296 == v161)) { v295 = v296; goto v294; }
+v293:;
+    if (v279) { v329 = v5; v330 = 0; goto v306; }
+    v308 = 0; v310 = 0;
+v307:;
+    u64 v312 = v310 << 2;
+    u32 v314 = at(u32, v291 + (i64)v312);
+    at(u32, v291 + (i64)v312) = v308;
+    u32 v309 = v314 + v308;
+    u64 v311 = v310 + 1;
+    if (!(v311 == v278)) { v308 = v309; v310 = v311; goto v307; }
+    u64 v317 = (u64)v309;
+    if (v309 == 0) { v329 = v5; v330 = 0; goto v306; }
+    u64 v320 = v317 << 1;
+    u64_u64 v322 = sys_rattle_alloc(v320, 2);
+    if (!(v322._0 & 1)) goto v326;
+    u8 *v328 = (u8 *)v322._1;
+    memset_any(v328, 0, v320);
+    v329 = v328; v330 = v317;
+v306:;
+    if (v292) goto v331;
+    v333 = 0;
+v332:;
+    u64 v335 = v333 << 2;
+    u64 v341 = ((u64)at(u16_1, v276 + (i64)v335)) << 2;
+    at(u16, v329 + (((u64)at(u32, v291 + v341)) << 1)) = at(u16_1, v276 + (i64)v335 + 2);
+    at(u32, v291 + v341) = at(u32, v291 + v341) + 1;
+    u64 v334 = v333 + 1;
+    if (!(v334 == v161)) { v333 = v334; goto v332; }
+v331:;
+    if (v277 == 0) { v360 = v330; v361 = v329; v362 = v278; v363 = v291; goto v75; }
+    sys_rattle_dealloc(v276);
+    v360 = v330; v361 = v329; v362 = v278; v363 = v291;
 v75:;
     memcpy(v21, v15, 6);
     memcpy(v22, v16, 295u);
-    memcpy(v23, v17, 80u);
-    v367 = v64; v368 = (u32)(v62 >> 32u); v369 = (u32)v62; v370 = 0; v371 = 0; v372 = v57; v373 = v59; v374 = 1; v375 = v358; v376 = v357; v377 = v356; v378 = v355; goto v354;
-v320:;
-    sys_rattle_dealloc(v285);
-v282:;
-    if (v271 == 0) goto v344;
-    sys_rattle_dealloc(v270);
-    goto v344;
-v216:;
-    u64 v218 = at(u64, v12 + 232);
-    u16 v220 = (u16)(at(u16, v12 + 224) + ((u16)v218));
-    u8 *v224 = at(ptr, v12 + 184);
-    u64 v225 = at(u64, v12 + 192);
-    u64 v223 = v218 + ((u64)at(u16, v12 + 228));
+    memcpy(v23, v17, 160u);
+    v367 = v64; v368 = (u32)(v62 >> 32u); v369 = (u32)v62; v370 = 0; v371 = 0; v372 = v57; v373 = v59; v374 = 1; v375 = v363; v376 = v362; v377 = v361; v378 = v360; goto v86;
+v326:;
+    sys_rattle_dealloc(v291);
+v288:;
+    if (v277 == 0) goto v350;
+    sys_rattle_dealloc(v276);
+    goto v350;
+v222:;
+    u64 v224 = at(u64, v12 + 232);
+    u16 v226 = (u16)(at(u16, v12 + 224) + ((u16)v224));
+    u8 *v230 = at(ptr, v12 + 184);
+    u64 v231 = at(u64, v12 + 192);
+    u64 v229 = v224 + ((u64)at(u16, v12 + 228));
     at(u16, v9) = (u16)at(u8, v12 + 200);
     at(u16, v9 + 2) = at(u16, v12 + 202);
     at(u64, v9 + 8) = at(u64, v12 + 208);
     at(u64, v9 + 16) = at(u64, v12 + 216);
-    font_layout_entry_read_entry(v8, v224, v225, v9, v220, v223);
-    u16 v232 = at(u16, v8 + 2);
-    u64 v233 = at(u64, v8 + 8);
-    u64 v234 = at(u64, v8 + 16);
-    u16 v235 = (u16)at(u8, v8);
-    at(ptr, v12 + 248) = v224;
-    at(u64, v12 + 256) = v225;
-    at(u16, v12 + 264) = v220;
+    font_layout_entry_read_entry(v8, v230, v231, v9, v226, v229);
+    u16 v238 = at(u16, v8 + 2);
+    u64 v239 = at(u64, v8 + 8);
+    u64 v240 = at(u64, v8 + 16);
+    u16 v241 = (u16)at(u8, v8);
+    at(ptr, v12 + 248) = v230;
+    at(u64, v12 + 256) = v231;
+    at(u16, v12 + 264) = v226;
     memset(v12 + 266, 0, 6);
-    at(u16, v12 + 272) = v235;
-    at(u16, v12 + 274) = v232;
+    at(u16, v12 + 272) = v241;
+    at(u16, v12 + 274) = v238;
     at(u32, v12 + 276) = 0;
-    at(u64, v12 + 280) = v233;
+    at(u64, v12 + 280) = v239;
     at(u64, v12 + 288) = 0;
-    at(u64, v12 + 296) = v234;
-    at(u64, v12 + 232) = v218 + 1;
-    at(u64, v12 + 240) = v213 - 1;
-    v240 = 0; v241 = 0; v242 = at(u32, v8 + 24) + 1; goto v212;
-v161:;
-    u8 *v162 = at(ptr, v12 + 248);
-    u64 v163 = at(u64, v12 + 256);
-    u16 v164 = at(u16, v12 + 264);
-    u64 v167 = at(u64, v12 + 280);
-    u64 v168 = at(u64, v12 + 288);
+    at(u64, v12 + 296) = v240;
+    at(u64, v12 + 232) = v224 + 1;
+    at(u64, v12 + 240) = v219 - 1;
+    v246 = 0; v247 = 0; v248 = at(u32, v8 + 24) + 1; goto v218;
+v167:;
+    u8 *v168 = at(ptr, v12 + 248);
+    u64 v169 = at(u64, v12 + 256);
+    u16 v170 = at(u16, v12 + 264);
+    u64 v173 = at(u64, v12 + 280);
+    u64 v174 = at(u64, v12 + 288);
     switch (at(u8, v12 + 272)) {
-    case 0: v206 = 1; v207 = at(u16, v12 + 274); v208 = v164; goto v170;
-    case 1: goto v171;
-    case 2: goto v172;
-    case 3: goto v173;
+    case 0: v212 = 1; v213 = at(u16, v12 + 274); v214 = v170; goto v176;
+    case 1: goto v177;
+    case 2: goto v178;
+    case 3: goto v179;
     default: __builtin_trap();
     }
-v171:;
-    v206 = 1; v207 = bswap16(at(u16_1, (v162 + (i64)v167) + (i64)(v168 << 1))); v208 = v164; goto v170;
-v172:;
-    u16 v183 = at(u16_1, (v162 + (i64)v167 + 2) + (i64)(v168 << 1));
-    if (v183 == 0) { v206 = 0; v207 = 0; v208 = 0; goto v170; }
-    u64 v188 = v167 + ((u64)bswap16(v183));
-    if (v163 < 4) { v206 = 2; v207 = 0; v208 = 0; goto v170; }
-    u64 v191 = v163 - 4;
-    if (v191 < v188) { v206 = 2; v207 = 0; v208 = 0; goto v170; }
-    if ((v191 - v188) < (usub_sat64((u64)bswap16(at(u16_1, v162 + (i64)v188 + 2)), 1) << 1)) { v206 = 2; v207 = 0; v208 = 0; goto v170; }
-    v206 = 1; v207 = bswap16(at(u16_1, v162 + (i64)v188)); v208 = v164; goto v170;
-v173:;
-    v206 = 2; v207 = 0; v208 = 0;
-v170:;
-    at(u64, v12 + 288) = v168 + 1;
-    at(u64, v12 + 296) = v158 - 1;
-    v240 = v208; v241 = v206; v242 = (u32)v207;
-v212:;
+v177:;
+    v212 = 1; v213 = bswap16(at(u16_1, (v168 + (i64)v173) + (i64)(v174 << 1))); v214 = v170; goto v176;
+v178:;
+    u16 v189 = at(u16_1, (v168 + (i64)v173 + 2) + (i64)(v174 << 1));
+    if (v189 == 0) { v212 = 0; v213 = 0; v214 = 0; goto v176; }
+    u64 v194 = v173 + ((u64)bswap16(v189));
+    if (v169 < 4) { v212 = 2; v213 = 0; v214 = 0; goto v176; }
+    u64 v197 = v169 - 4;
+    if (v197 < v194) { v212 = 2; v213 = 0; v214 = 0; goto v176; }
+    if ((v197 - v194) < (usub_sat64((u64)bswap16(at(u16_1, v168 + (i64)v194 + 2)), 1) << 1)) { v212 = 2; v213 = 0; v214 = 0; goto v176; }
+    v212 = 1; v213 = bswap16(at(u16_1, v168 + (i64)v194)); v214 = v170; goto v176;
+v179:;
+    v212 = 2; v213 = 0; v214 = 0;
+v176:;
+    at(u64, v12 + 288) = v174 + 1;
+    at(u64, v12 + 296) = v164 - 1;
+    v246 = v214; v247 = v212; v248 = (u32)v213;
+v218:;
     at(u32, v10) = 1;
-    at(u16, v10 + 4) = v241;
-    at(u16, v10 + 6) = v240;
-    at(u32, v10 + 8) = v242;
-    v251 = (u8)v241; v252 = at(u32_2, v10 + 6);
-v245:;
-    if (!(v251 == 1)) goto v157;
-    if (!(at(u64, v11 + 16) == v155)) { v153 = v152; v263 = v155; goto v154; }
-    if (!std_alloc_vec_Vec_grow_amortized_23b5(v11)) goto v260;
-    v153 = at(ptr, v11); v263 = at(u64, v11 + 8); goto v154;
-v260:;
-    if (at(u64, v11 + 16) == 0) goto v101;
+    at(u16, v10 + 4) = v247;
+    at(u16, v10 + 6) = v246;
+    at(u32, v10 + 8) = v248;
+    v257 = (u8)v247; v258 = at(u32_2, v10 + 6);
+v251:;
+    if (!(v257 == 1)) goto v163;
+    if (!(at(u64, v11 + 16) == v161)) { v159 = v158; v269 = v161; goto v160; }
+    if (!std_alloc_vec_Vec_grow_amortized_23b5(v11)) goto v266;
+    v159 = at(ptr, v11); v269 = at(u64, v11 + 8); goto v160;
+v266:;
+    if (at(u64, v11 + 16) == 0) goto v107;
     sys_rattle_dealloc(at(ptr, v11));
-    goto v101;
-v154:;
-    at(u32_1, v153 + (v263 << 2)) = v252;
-    u64 v156 = v263 + 1;
-    at(u64, v11 + 8) = v156;
-    v152 = v153; v155 = v156; goto v151;
-v101:;
-v344:;
+    goto v107;
+v160:;
+    at(u32_1, v159 + (v269 << 2)) = v258;
+    u64 v162 = v269 + 1;
+    at(u64, v11 + 8) = v162;
+    v158 = v159; v161 = v162; goto v157;
+v107:;
+v350:;
     at(u64, v7) = 0;
     at(u8, v7) = v57;
     at(u64, v7 + 8) = v62;
@@ -4461,8 +4725,8 @@ v344:;
     font_subset_further_tables_FurtherTables_drop(v7);
     memset(v21, 0, 6);
     memset(v22, 0, 295u);
-    memset(v23, 0, 80u);
-    v367 = 0; v368 = 0; v369 = 0; v370 = 1; v371 = 0; v372 = 0; v373 = 0; v374 = 0; v375 = (u8 *)0; v376 = 0; v377 = (u8 *)0; v378 = 0; goto v354;
+    memset(v23, 0, 160u);
+    v367 = 0; v368 = 0; v369 = 0; v370 = 1; v371 = 0; v372 = 0; v373 = 0; v374 = 0; v375 = (u8 *)0; v376 = 0; v377 = (u8 *)0; v378 = 0; goto v86;
 v80:;
     at(u64, v6) = 0;
     at(u8, v6) = v57;
@@ -4472,9 +4736,9 @@ v80:;
     font_subset_further_tables_FurtherTables_drop(v6);
     memset(v21, 0, 6);
     memset(v22, 0, 295u);
-    memset(v23, 0, 80u);
+    memset(v23, 0, 160u);
     v367 = 0; v368 = 0; v369 = 0; v370 = 1; v371 = 1; v372 = 4; v373 = 0; v374 = 0; v375 = (u8 *)0; v376 = 0; v377 = (u8 *)0; v378 = 0;
-v354:;
+v86:;
     v399 = v367; v400 = v368; v401 = v369; v402 = v370; v403 = v371; v404 = v372; v405 = v373; v406 = v374; v407 = v375; v408 = v376; v409 = v377; v410 = v378; goto v379;
 v55:;
     at(u32, v18) = (u32)at(u8, v20 + 4);
@@ -4497,14 +4761,14 @@ v379:;
     at(u32_1, v0 + 20) = v400;
     at(u8, v0 + 24) = v399;
     memcpy(v0 + 25, v22, 295u);
-    memcpy(v0 + 320, v23, 80u);
-    at(u64_1, v0 + 400) = v406;
-    at(ptr_1, v0 + 408) = v407;
-    at(u64_1, v0 + 416) = v408;
-    at(u64_1, v0 + 424) = v408;
-    at(ptr_1, v0 + 432) = v409;
-    at(u64_1, v0 + 440) = v410;
-    at(u64_1, v0 + 448) = v410;
+    memcpy(v0 + 320, v23, 160u);
+    at(u64_1, v0 + 480) = v406;
+    at(ptr_1, v0 + 488) = v407;
+    at(u64_1, v0 + 496) = v408;
+    at(u64_1, v0 + 504) = v408;
+    at(ptr_1, v0 + 512) = v409;
+    at(u64_1, v0 + 520) = v410;
+    at(u64_1, v0 + 528) = v410;
     return;
 v26:;
     font_subset_font_of_kind_FontOfKind_open_25ca(v19, v1, v3);
@@ -4516,8 +4780,8 @@ v26:;
     at(u8, v0 + 8) = v29;
     at(u8, v0 + 9) = v31;
     memcpy(v0 + 10, v19 + 10, 10u);
-    memcpy(v0 + 20, v19 + 20, 380u);
-    memset(v0 + 400, 0, 56u);
+    memcpy(v0 + 20, v19 + 20, 460u);
+    memset(v0 + 480, 0, 56u);
     return;
 v35:;
     u32 v46 = (u32)at(u8, v19 + 4);
@@ -4526,7 +4790,7 @@ v35:;
     at(u8, v0 + 8) = v29;
     at(u8, v0 + 9) = v31;
     memcpy(v0 + 10, v19 + 10, 10u);
-    memset(v0 + 20, 0, 436u);
+    memset(v0 + 20, 0, 516u);
     return;
 }
 
@@ -4556,7 +4820,7 @@ v27:;
     v66 = 5; goto v26;
 v56:;
     font_layout_layout_Layout_open(v4, v20 + (i64)((u64)bswap32(v51)), (u64)bswap32(v53));
-    v66 = (u8)(((u8)(at(u8, v4) & 1)) ^ 5); goto v26;
+    v66 = (at(u8, v4) == 1) ? 5 : 4; goto v26;
 v28:;
     u64 v29 = v30 + 1;
     if (v29 == v24) v66 = 5; else { v30 = v29; goto v27; }
@@ -4692,6 +4956,74 @@ v20:;
     return;
 }
 
+void font_subset_further_tables_FurtherTablesTablesBySlot_table_1234(u8 *v0, u8 *v1, u64 v2) {
+    _Alignas(4) u8 v4[20], v5[32];
+    _Alignas(8) u8 v6[24];
+    u8 *v33, *v46, *v47, *v101;
+    u64 v48, v68, v100, v102;
+    memset(v6, 0, 24u);
+    if (!(v2 < 16u)) goto v9;
+    font_subset_accepted_copied(v6, at(ptr, v1 + 8), v2);
+    at(u64_1, v0) = (u64)at(u8, v6);
+    memcpy(v0 + 8, v6 + 8, 16u);
+    return;
+v9:;
+    switch (at(u8, v1)) {
+    case 0: case 1: goto v19;
+    case 2: goto v20;
+    case 3: goto v21;
+    default: __builtin_trap();
+    }
+v20:;
+    if (!(v2 < 21u)) goto v19;
+    v33 = at(ptr_1, at(ptr, v1 + 8)); goto v27;
+v19:;
+    memset(v0, 0, 24u);
+    return;
+v21:;
+    u8 *v30 = at(ptr_1, at(ptr, v1 + 8));
+    if (v2 < 21u) v33 = v30; else goto v32;
+v27:;
+    at(u32, v4) = 1163084098u;
+    at(u32, v4 + 4) = 1178944583u;
+    at(u32, v4 + 8) = 1397706823u;
+    at(u32, v4 + 12) = 1112888135u;
+    at(u32, v4 + 16) = 1852990827u;
+    v46 = v33; v47 = v4; v48 = 0xffffffffffffffc0u; goto v38;
+v32:;
+    at(u32, v5) = 1380013640u;
+    at(u32, v5 + 4) = 1380013645u;
+    at(u32, v5 + 8) = 1413567571u;
+    at(u32, v5 + 12) = 1380013654u;
+    at(u32, v5 + 16) = 1918989921u;
+    at(u32, v5 + 20) = 1918989923u;
+    at(u32, v5 + 24) = 1918989926u;
+    at(u32, v5 + 28) = 1918989927u;
+    v46 = v30; v47 = v5; v48 = 0xffffffffffffffacu;
+v38:;
+    u32 v52 = at(u32, (v47 + (i64)(v2 << 2)) + (i64)v48);
+    u16 v54 = at(u16_1, v46 + 4);
+    u64 v56 = (u64)bswap16(v54);
+    if (v54 == 0) { v100 = 0; v101 = (u8 *)0; v102 = 0; goto v58; }
+    u8 v60 = (u8)v52;
+    u8 v62 = (u8)(v52 >> 16u);
+    u8 v64 = (u8)(v52 >> 8);
+    v68 = 0;
+v65:;
+    u64 v70 = v68 << 4;
+    if (!((((at(u8, v46 + (i64)v70 + 12) == v60) ? (at(u8, v46 + (i64)v70 + 13) == v64) : 0) ? (at(u8, v46 + (i64)v70 + 14) == v62) : 0) ? (((((u32)at(u8, v46 + (i64)v70 + 15)) << 24u) ^ v52) < 16777216u) : 0)) goto v66;
+    v100 = 1; v101 = v46 + (i64)((u64)bswap32(at(u32_1, v46 + (i64)v70 + 20))); v102 = (u64)bswap32(at(u32_1, v46 + (i64)v70 + 24)); goto v58;
+v66:;
+    u64 v67 = v68 + 1;
+    if (v67 == v56) { v100 = 0; v101 = (u8 *)0; v102 = 0; } else { v68 = v67; goto v65; }
+v58:;
+    at(ptr, v6 + 8) = v101;
+    at(u64, v6 + 16) = v102;
+    at(u64_1, v0) = v100;
+    memcpy(v0 + 8, v6 + 8, 16u);
+    return;
+}
+
 void font_subset_further_tables_FurtherTables_drop(u8 *v0) {
     u8 v5 = at(u8, v0 + 56);
     u8 *v7 = at(ptr_1, v0 + 64);
@@ -4721,59 +5053,6 @@ v50:;
 v55:;
     if ((v5 != 1) ? 1 : (v9 == 0)) return;
     sys_rattle_dealloc(v7);
-    return;
-}
-
-static void font_subset_further_tables_FurtherTables_variations(u8 *v0, u8 *v1) {
-    _Alignas(8) u8 v3[80], v4[24], v5[72];
-    u64 v24, v56, v86, v88, v99;
-    u8 *v87;
-    memset(v3, 0, 80u);
-    memset(v5, 0, 72u);
-    if (!(at(u8, v1) == 3)) goto v9;
-    u8 *v13 = at(ptr, v1 + 8);
-    u8 *v14 = at(ptr_1, v13);
-    u16 v16 = at(u16_1, v14 + 4);
-    u64 v18 = (u64)bswap16(v16);
-    if (v16 == 0) goto v20;
-    v24 = 0;
-v21:;
-    u64 v26 = v24 << 4;
-    if (!((((at(u8, v14 + (i64)v26 + 12) == 103u) & (at(u8, v14 + (i64)v26 + 13) == 118u)) & (at(u8, v14 + (i64)v26 + 14) == 97u)) & (at(u8, v14 + (i64)v26 + 15) == 114u))) goto v22;
-    u64 v51 = (u64)bswap32(at(u32_1, v14 + (i64)v26 + 24));
-    u64 v50 = (u64)bswap32(at(u32_1, v14 + (i64)v26 + 20));
-    v56 = 0;
-v53:;
-    u64 v59 = v56 << 4;
-    if (!((((at(u8, v14 + (i64)v59 + 12) == 102u) & (at(u8, v14 + (i64)v59 + 13) == 118u)) & (at(u8, v14 + (i64)v59 + 14) == 97u)) & (at(u8, v14 + (i64)v59 + 15) == 114u))) goto v54;
-    v86 = 1; v87 = v14 + (i64)((u64)bswap32(at(u32_1, v14 + (i64)v59 + 20))); v88 = (u64)bswap32(at(u32_1, v14 + (i64)v59 + 24)); goto v58;
-v54:;
-    u64 v55 = v56 + 1;
-    if (v55 == v18) { v86 = 0; v87 = (u8 *)0; v88 = 0; } else { v56 = v55; goto v53; }
-v58:;
-    at(u64, v4) = v86;
-    at(ptr, v4 + 8) = v87;
-    at(u64, v4 + 16) = v88;
-    font_variations_gvar_Variations_open(v3, v14 + (i64)v50, v51, v4, at(u16, v13 + 64));
-    u8 v93 = at(u8, v3);
-    if (!(v93 == 0)) { v99 = 0; goto v96; }
-    memcpy(v5, v3 + 8, 72u);
-    v99 = 1;
-v96:;
-    at(u8, v0) = v93;
-    at(u64_1, v0 + 8) = v99;
-    memcpy(v0 + 16, v5, 72u);
-    return;
-v22:;
-    u64 v23 = v24 + 1;
-    if (!(v23 == v18)) { v24 = v23; goto v21; }
-v20:;
-    at(u8, v0) = 0;
-    memset(v0 + 8, 0, 80u);
-    return;
-v9:;
-    at(u8, v0) = 0;
-    memset(v0 + 8, 0, 80u);
     return;
 }
 
@@ -5030,571 +5309,93 @@ v22:;
 
 static void font_subset_kind_source_CutOfKind_of_1490(u8 *v0, u8 *v1) {
     _Alignas(8) u8 v3[1], v4[24], v8[24], v10[40], v11[40], v12[24], v13[192], v14[24], v18[24];
-    u8 v5[31], v6[31], v7[31], v9[31], v17[191], *v38, *v138, *v180, *v384, *v385, *v392, *v395, *v396, *v425, *v440, *v454, *v515, v738, v739, *v742, *v746, *v749, v752, v753, *v756, *v760, *v763;
-    flag v37, v136, v682;
-    u64 v65, v120, v113, v130, v137, v139, v174, v194, v201, v214, v217, v224, v233, v264, v265, v283, v290, v303, v306, v234, v332, v344, v345, v347, v349, v356, v397, v398, v409, v426, v427, v441, v442, v455, v456, v468, v469, v475, v478, v482, v479, v493, v504, v505, v519, v520, v533, v534, v558, v569, v572, v580, v582, v597, v600, v602, v601, v619, v642, v652, v655, v663, v665, v706, v740, v741, v743, v744, v745, v747, v748, v750, v751, v754, v755, v757, v758, v759, v761, v762, v764, v765;
-    u8x16 v203, v292;
-    u64x2 v334;
-    u32 v382, v383, v393, v394, v480, v506;
+    u8 v5[31], v6[31], v7[31], v9[31], v17[191], *v130, *v176, *v380, *v381, *v388, *v391, *v392, *v421, *v436, *v450, *v511, v734, v735, *v738, *v742, *v745, v748, v749, *v752, *v756, *v759;
+    u64 v57, v112, v105, v122, v129, v131, v170, v190, v197, v210, v213, v220, v229, v260, v261, v279, v286, v299, v302, v230, v328, v340, v341, v343, v345, v352, v393, v394, v405, v422, v423, v437, v438, v451, v452, v464, v465, v471, v474, v478, v475, v489, v500, v501, v515, v516, v529, v530, v554, v565, v568, v576, v578, v593, v596, v598, v597, v615, v638, v648, v651, v659, v661, v736, v737, v739, v740, v741, v743, v744, v746, v747, v750, v751, v753, v754, v755, v757, v758, v760, v761;
+    flag v128, v678;
+    u8x16 v199, v288;
+    u64x2 v330;
+    u32 v378, v379, v389, v390, v476, v502;
     u8 v15 = at(u8, v1);
     memset(v17, 0, 191u);
     memset(v18, 0, 24u);
     if (!(v15 == 0)) goto v21;
     memcpy(v17, v1 + 1, 191u);
-    v752 = 0; v753 = 0; v754 = 0; v755 = 0; v756 = (u8 *)0; v757 = 0; v758 = 0; v759 = 0; v760 = (u8 *)0; v761 = 0; v762 = 0; v763 = (u8 *)0; v764 = 0; v765 = 0; goto v22;
+    v748 = 0; v749 = 0; v750 = 0; v751 = 0; v752 = (u8 *)0; v753 = 0; v754 = 0; v755 = 0; v756 = (u8 *)0; v757 = 0; v758 = 0; v759 = (u8 *)0; v760 = 0; v761 = 0; goto v22;
 v21:;
     memset(v14, 0, 24u);
     at(u8, v13) = v15;
     memcpy(v13 + 1, v1 + 1, 191u);
-    if (!(at(u8, v13 + 112) == 1)) { v37 = 0; v38 = (u8 *)0; goto v28; }
+    if (!(at(u8, v13 + 112) == 1)) goto v28;
     u8 *v30 = at(ptr, v13 + 120);
-    u8 v32 = at(u8, v30 + 312);
-    v37 = v32 & 1; v38 = (v32 == 1) ? (v30 + 320) : ((u8 *)0);
-v28:;
-    memset(v10, 0, 40u);
-    memset(v11, 0, 40u);
     memset(v12, 0, 24u);
-    divided_tables_metrics_kept_metrics_6f24(v10, v13, 7, 8);
-    u8 v41 = at(u8, v10 + 8);
-    if (!(at(u8, v10) == 0)) goto v44;
-    u8 *v46 = at(ptr, v10 + 16);
-    u64 v48 = at(u64, v10 + 24);
-    u64 v50 = at(u64, v10 + 32);
-    u64 v51 = (u64)v41;
-    u8 *v54 = at(ptr_1, at(ptr, v13 + 8));
-    u64 v55 = (u64)v54;
-    u16 v57 = at(u16_1, v54 + 4);
-    u64 v59 = (u64)bswap16(v57);
-    if (v57 == 0) { v136 = 1; v137 = 0; v138 = (u8 *)0; v139 = 0; goto v61; }
-    v65 = 0;
-v62:;
-    u64 v67 = v65 << 4;
-    if (!((((at(u8, v54 + (i64)v67 + 12) == 112u) & (at(u8, v54 + (i64)v67 + 13) == 111u)) & (at(u8, v54 + (i64)v67 + 14) == 115u)) & (at(u8, v54 + (i64)v67 + 15) == 116u))) goto v63;
-    u64 v91 = (u64)bswap32(at(u32_1, v54 + (i64)v67 + 20));
-    if (bswap32(at(u32_1, v54 + (i64)v67 + 24)) < 32u) { v136 = 1; v137 = 0; v138 = (u8 *)0; v139 = 0; goto v61; }
-    u64_u64 v96 = sys_rattle_alloc(32u, 1);
-    if (!(v96._0 & 1)) goto v100;
-    u64 v101 = v96._1;
-    u8 *v102 = (u8 *)v101;
-    if (!((v101 - ((u64)(v54 + (i64)v91))) < 32u)) goto v107;
-    if ((v101 - (v55 + v91)) < 32u) v120 = 0; else { v113 = 0; goto v112; }
+    memset(v11, 0, 40u);
+    divided_tables_metrics_kept_metrics_6f24(v11, v13, 7, 8);
+    u8 v33 = at(u8, v11 + 8);
+    u8 *v35 = at(ptr, v11 + 16);
+    u64 v37 = at(u64, v11 + 24);
+    u64 v39 = at(u64, v11 + 32);
+    if (!(at(u8, v11) == 0)) goto v42;
+    u64 v43 = (u64)v33;
+    u8 *v46 = at(ptr_1, at(ptr, v13 + 8));
+    u64 v47 = (u64)v46;
+    u16 v49 = at(u16_1, v46 + 4);
+    u64 v51 = (u64)bswap16(v49);
+    if (v49 == 0) { v128 = 1; v129 = 0; v130 = (u8 *)0; v131 = 0; goto v53; }
+    v57 = 0;
+v54:;
+    u64 v59 = v57 << 4;
+    if (!((((at(u8, v46 + (i64)v59 + 12) == 112u) & (at(u8, v46 + (i64)v59 + 13) == 111u)) & (at(u8, v46 + (i64)v59 + 14) == 115u)) & (at(u8, v46 + (i64)v59 + 15) == 116u))) goto v55;
+    u64 v83 = (u64)bswap32(at(u32_1, v46 + (i64)v59 + 20));
+    if (bswap32(at(u32_1, v46 + (i64)v59 + 24)) < 32u) { v128 = 1; v129 = 0; v130 = (u8 *)0; v131 = 0; goto v53; }
+    u64_u64 v88 = sys_rattle_alloc(32u, 1);
+    if (!(v88._0 & 1)) goto v92;
+    u64 v93 = v88._1;
+    u8 *v94 = (u8 *)v93;
+    if (!((v93 - ((u64)(v46 + (i64)v83))) < 32u)) goto v99;
+    if ((v93 - (v47 + v83)) < 32u) v112 = 0; else { v105 = 0; goto v104; }
+v103:;
+    at(u8, v94 + v112) = at(u8, (v46 + (i64)v83) + v112);
+    u64 v113 = v112 + 1;
+    if (v113 == 32u) goto v111;
+    v112 = v113; goto v103;
+v104:;
+    at(u8x16_1, v94 + v105) = at(u8x16_1, (v46 + (i64)v83) + v105);
+    u64 v106 = v105 + 16u;
+    if (v106 == 32u) goto v111;
+    v105 = v106; goto v104;
+v99:;
+    memmove(v94, v46 + (i64)v83, 32u);
 v111:;
-    at(u8, v102 + v120) = at(u8, (v54 + (i64)v91) + v120);
-    u64 v121 = v120 + 1;
-    if (v121 == 32u) goto v119;
-    v120 = v121; goto v111;
-v112:;
-    at(u8x16_1, v102 + v113) = at(u8x16_1, (v54 + (i64)v91) + v113);
-    u64 v114 = v113 + 16u;
-    if (v114 == 32u) goto v119;
-    v113 = v114; goto v112;
-v107:;
-    memmove(v102, v54 + (i64)v91, 32u);
-v119:;
-    if ((v101 - ((u64)(u8 *)table_62a9c92b)) < 4) v130 = 0; else goto v129;
-v128:;
-    at(u8, v102 + v130) = at(u8, (u8 *)table_62a9c92b + v130);
-    u64 v131 = v130 + 1;
-    if (v131 == 4) { v136 = 0; v137 = 1; v138 = v102; v139 = 32u; goto v61; }
-    v130 = v131; goto v128;
-v129:;
-    at(u32_1, v102) = 768u;
-    v136 = 0; v137 = 1; v138 = v102; v139 = 32u; goto v61;
-v100:;
-    if ((v41 != 1) ? 1 : (v50 == 0)) goto v44;
-    sys_rattle_dealloc(v46);
-    goto v44;
-v63:;
-    u64 v64 = v65 + 1;
-    if (v64 == v59) { v136 = 1; v137 = 0; v138 = (u8 *)0; v139 = 0; } else { v65 = v64; goto v62; }
-v61:;
-    divided_tables_metrics_kept_metrics_6f24(v11, v13, 14u, 15u);
-    u8 v142 = at(u8, v11 + 8);
-    if (!(at(u8, v11) == 0)) goto v145;
-    u8 *v151 = at(ptr, v11 + 16);
-    u64 v153 = at(u64, v11 + 24);
-    u64 v155 = at(u64, v11 + 32);
+    if ((v93 - ((u64)(u8 *)table_62a9c92b)) < 4) v122 = 0; else goto v121;
+v120:;
+    at(u8, v94 + v122) = at(u8, (u8 *)table_62a9c92b + v122);
+    u64 v123 = v122 + 1;
+    if (v123 == 4) { v128 = 0; v129 = 1; v130 = v94; v131 = 32u; goto v53; }
+    v122 = v123; goto v120;
+v121:;
+    at(u32_1, v94) = 768u;
+    v128 = 0; v129 = 1; v130 = v94; v131 = 32u; goto v53;
+v92:;
+    if ((v33 != 1) ? 1 : (v39 == 0)) goto v42;
+    sys_rattle_dealloc(v35);
+    goto v42;
+v55:;
+    u64 v56 = v57 + 1;
+    if (v56 == v51) { v128 = 1; v129 = 0; v130 = (u8 *)0; v131 = 0; } else { v57 = v56; goto v54; }
+v53:;
+    memset(v10, 0, 40u);
+    divided_tables_metrics_kept_metrics_6f24(v10, v13, 14u, 15u);
+    u8 v134 = at(u8, v10 + 8);
+    u8 *v136 = at(ptr, v10 + 16);
+    u64 v138 = at(u64, v10 + 24);
+    u64 v140 = at(u64, v10 + 32);
+    if (!(at(u8, v10) == 0)) goto v143;
     memset(v8, 0, 24u);
     memset(v9, 0, 31u);
-    if (!v37) { v706 = 0; goto v157; }
+    u8 v149 = at(u8, v30 + 384);
+    if (v149 == 0) goto v151;
     memset(v7, 0, 31u);
-    u16 v159 = at(u16, v38 + 66);
-    u64 v160 = (u64)v159;
-    flag v161 = v159 == 0;
-    if (v161) { v180 = v3; goto v162; }
-    u64_u64 v166 = sys_rattle_alloc(v160 << 4, 8);
-    if (!(v166._0 & 1)) goto v170;
-    u8 *v172 = (u8 *)v166._1;
-    v174 = 0;
-v173:;
-    u64 v176 = v174 << 4;
-    at(ptr_1, v172 + v176) = (u8 *)table_d0e67785;
-    at(u64_1, v172 + v176 + 8) = 0;
-    u64 v175 = v174 + 1;
-    if (v175 == v160) v180 = v172; else { v174 = v175; goto v173; }
-v162:;
-    u8 *v182 = at(ptr, v13 + 168);
-    u64 v184 = at(u64, v13 + 176);
-    if (v184 == 0) { v214 = 0; goto v186; }
-    if (at(u8, v182) & 1) { v224 = 0; goto v190; }
-    if (v184 < 64u) { v214 = 0; goto v186; }
-    v194 = 0;
-v193:;
-    if (v194 == 0xffffffffffffffc0u) goto v196;
-    v201 = 0; v203 = (u8x16){0};
-v200:;
-    u8x16 v204 = v203 | ((-(at(u8x16_1, (v182 + (i64)v194) + (i64)v201) & 1)));
-    u64 v202 = v201 + 16u;
-    if (!(v202 == 64u)) { v201 = v202; v203 = v204; goto v200; }
-    if (!(bits_u8x16(v204) == 0)) { v214 = v194; goto v186; }
-v196:;
-    u64 v195 = v194 + 64u;
-    if ((v184 - v195) < 64u) v214 = v195; else { v194 = v195; goto v193; }
-v186:;
-    if (v214 < v184) v217 = v214; else { v224 = v184; goto v190; }
-v216:;
-    if (at(u8, v182 + v217) & 1) { v224 = v217; goto v190; }
-    u64 v218 = v217 + 1;
-    if (v218 == v184) v224 = v184; else { v217 = v218; goto v216; }
-v190:;
-    if (!(v159 > ((u16)v224))) goto v228;
-    v233 = v224;
-v232:;
-    u8 *v237 = at(ptr_1, v38 + 16);
-    u8 *v238 = at(ptr_1, v38 + 32);
-    u64 v239 = v233 & 65535u;
-    if (!(at(u8, v38 + 64) == 0)) goto v242;
-    u64 v243 = v239 << 1;
-    v264 = ((u64)bswap16(at(u16_1, v237 + (i64)v243))) << 1; v265 = ((u64)bswap16(at(u16_1, v237 + (i64)v243 + 2))) << 1; goto v254;
-v242:;
-    u64 v255 = v239 << 2;
-    v264 = (u64)bswap32(at(u32_1, v237 + (i64)v255)); v265 = (u64)bswap32(at(u32_1, v237 + (i64)v255 + 4));
-v254:;
-    u64 v268 = v239 << 4;
-    at(ptr_1, v180 + (i64)v268) = v238 + (i64)v264;
-    at(u64_1, v180 + (i64)v268 + 8) = v265 - v264;
-    u64 v272 = (v233 + 1) & 65535u;
-    if (!(v184 > v272)) goto v275;
-    if (at(u8, v182 + v272) & 1) { v234 = v272; goto v235; }
-v275:;
-    if ((v184 - v272) < 64u) { v303 = v272; goto v281; }
-    v283 = v272;
-v282:;
-    if (!(v283 < 0xffffffffffffffc0u)) goto v285;
-    v290 = 0; v292 = (u8x16){0};
-v289:;
-    u8x16 v293 = v292 | ((-(at(u8x16_1, (v182 + (i64)v283) + (i64)v290) & 1)));
-    u64 v291 = v290 + 16u;
-    if (!(v291 == 64u)) { v290 = v291; v292 = v293; goto v289; }
-    if (!(bits_u8x16(v293) == 0)) { v303 = v283; goto v281; }
-v285:;
-    u64 v284 = v283 + 64u;
-    if ((v184 - v284) < 64u) v303 = v284; else { v283 = v284; goto v282; }
-v281:;
-    if (v303 < v184) v306 = v303; else { v234 = v184; goto v235; }
-v305:;
-    if (at(u8, v182 + v306) & 1) { v234 = v306; goto v235; }
-    u64 v307 = v306 + 1;
-    if (v307 == v184) v234 = v184; else { v306 = v307; goto v305; }
-v235:;
-    if (v159 > ((u16)v234)) { v233 = v234; goto v232; }
-v228:;
-    memset(v6, 0, 31u);
-    u8 *v315 = at(ptr_1, v38);
-    u8 *v317 = at(ptr_1, v38 + 48);
-    u64 v318 = (u64)v317;
-    u64 v320 = at(u64_1, v38 + 56);
-    memset(v5, 0, 31u);
-    memset(v4, 0, 24u);
-    u64 v322 = (v160 << 2) + 24u;
-    u64 v323 = v320 + v322;
-    if (v161) { v356 = 0; goto v324; }
-    if (v159 < 3) { v344 = 0; v345 = 0; goto v327; }
-    u64 v330 = (v160 | 0xfffffffffffffffeu) + v160;
-    v332 = 0; v334 = (u64x2){0};
-v331:;
-    u64x4 v339 = at(u64x4_8, v180 + (i64)(v332 << 4) + 8);
-    u64x2 v335 = (u64x2){v339[0], v339[2]} + v334;
-    u64 v333 = v332 + 2;
-    if (!(v333 == v330)) { v332 = v333; v334 = v335; goto v331; }
-    v344 = sum_u64x2(v335); v345 = v330;
-v327:;
-    v347 = v344; v349 = v345;
-v346:;
-    u64 v348 = at(u64, v180 + (i64)(v349 << 4) + 8) + v347;
-    u64 v350 = v349 + 1;
-    if (v350 == v160) v356 = v348; else { v347 = v348; v349 = v350; goto v346; }
-v324:;
-    u64 v357 = v356 + v323;
-    if (!(v357 == 0)) goto v360;
-    at(ptr, v4) = v3;
-    memset(v4 + 8, 0, 16u);
-    v382 = (u32)v323; v383 = (u32)v322; v384 = v4 + 16; v385 = v4 + 8; goto v365;
-v360:;
-    if (!((i64)v357 > (i64)0xffffffffffffffffu)) goto v368;
-    u64_u64 v370 = sys_rattle_alloc(v357, 1);
-    if (!(v370._0 & 1)) goto v368;
-    u8 *v375 = (u8 *)v370._1;
-    at(ptr, v4) = v375;
-    at(u64, v4 + 8) = 0;
-    at(u64, v4 + 16) = v357;
-    u32 v378 = (u32)v322;
-    u32 v379 = (u32)v323;
-    if (v357 < 8) { v382 = v379; v383 = v378; v384 = v4 + 16; v385 = v4 + 8; } else { v392 = v375; v393 = v379; v394 = v378; v395 = v4 + 16; v396 = v4 + 8; v397 = v357; v398 = 0; goto v381; }
-v365:;
-    if (!std_alloc_vec_Vec_grow_amortized_1cf2(v4, 8)) { v515 = v384; goto v388; }
-    v392 = at(ptr, v4); v393 = v382; v394 = v383; v395 = v384; v396 = v385; v397 = at(u64, v384); v398 = at(u64, v385);
-v381:;
-    u64 v399 = v398 + 8;
-    memset(v396, 0, 16u);
-    if ((((u64)(v392 + (i64)v398)) - ((u64)v315)) < 8) v409 = 0; else goto v406;
-v405:;
-    at(u8, (v392 + (i64)v398) + v409) = at(u8, v315 + v409);
-    u64 v410 = v409 + 1;
-    if (v410 == 8) goto v408;
-    v409 = v410; goto v405;
-v406:;
-    at(u64_1, v392 + (i64)v398) = at(u64_1, v315);
-v408:;
-    at(ptr, v4) = v392;
-    at(u64, v396) = v399;
-    at(u64, v395) = v397;
-    u32 v415 = bswap32(v394);
-    if (!((v397 - v399) < 4)) { v425 = v392; v426 = v397; v427 = v399; goto v419; }
-    if (!std_alloc_vec_Vec_grow_amortized_1cf2(v4, 4)) { v515 = v395; goto v388; }
-    v425 = at(ptr, v4); v426 = at(u64, v395); v427 = at(u64, v396);
-v419:;
-    u64 v428 = v427 + 4;
-    at(u32_1, v425 + (i64)v427) = v415;
-    at(ptr, v4) = v425;
-    at(u64, v396) = v428;
-    at(u64, v395) = v426;
-    u16 v430 = bswap16(v159);
-    if (!((v426 - v428) < 2)) { v440 = v425; v441 = v426; v442 = v428; goto v434; }
-    if (!std_alloc_vec_Vec_grow_amortized_1cf2(v4, 2)) { v515 = v395; goto v388; }
-    v440 = at(ptr, v4); v441 = at(u64, v395); v442 = at(u64, v396);
-v434:;
-    u64 v443 = v442 + 2;
-    at(u16_1, v440 + (i64)v442) = v430;
-    at(ptr, v4) = v440;
-    at(u64, v396) = v443;
-    at(u64, v395) = v441;
-    if (!((v441 - v443) < 2)) { v454 = v440; v455 = v441; v456 = v443; goto v448; }
-    if (!std_alloc_vec_Vec_grow_amortized_1cf2(v4, 2)) { v515 = v395; goto v388; }
-    v454 = at(ptr, v4); v455 = at(u64, v395); v456 = at(u64, v396);
-v448:;
-    u64 v457 = v456 + 2;
-    at(u16_1, v454 + (i64)v456) = 256u;
-    at(ptr, v4) = v454;
-    at(u64, v396) = v457;
-    at(u64, v395) = v455;
-    u32 v459 = bswap32(v393);
-    if (!((v455 - v457) < 4)) { v468 = v455; v469 = v457; goto v463; }
-    if (!std_alloc_vec_Vec_grow_amortized_1cf2(v4, 4)) { v515 = v395; goto v388; }
-    v468 = at(u64, v395); v469 = at(u64, v396); goto v463;
-v388:;
-    if (at(u64, v515) == 0) goto v368;
-    goto v518;
-v463:;
-    u64 v470 = v469 + 4;
-    at(u32_1, at(ptr, v4) + (i64)v469) = v459;
-    at(u64, v396) = v470;
-    at(u64, v395) = v468;
-    if (v161) { v504 = v470; v505 = v468; v506 = 0; goto v473; }
-    v475 = v470; v478 = v468; v480 = 0; v482 = 0;
-v474:;
-    u32 v484 = bswap32(v480);
-    if (!((v478 - v475) < 4)) { v479 = v478; v493 = v475; goto v477; }
-    if (!std_alloc_vec_Vec_grow_amortized_1cf2(v4, 4)) goto v490;
-    v479 = at(u64, v395); v493 = at(u64, v396);
-v477:;
-    u64 v476 = v493 + 4;
-    at(u32_1, at(ptr, v4) + (i64)v493) = v484;
-    at(u64, v396) = v476;
-    at(u64, v395) = v479;
-    u32 v481 = v480 + ((u32)at(u64, v180 + (i64)(v482 << 4) + 8));
-    u64 v483 = v482 + 1;
-    if (!(v483 == v160)) { v475 = v476; v478 = v479; v480 = v481; v482 = v483; goto v474; }
-    v504 = v476; v505 = v479; v506 = bswap32(v481);
-v473:;
-    if (!((v505 - v504) < 4)) { v519 = v505; v520 = v504; goto v510; }
-    if (!std_alloc_vec_Vec_grow_amortized_1cf2(v4, 4)) goto v490;
-    v519 = at(u64, v395); v520 = at(u64, v396); goto v510;
-v490:;
-    if (at(u64, v395) == 0) goto v368;
-    goto v518;
-v510:;
-    u64 v521 = v520 + 4;
-    at(u32_1, at(ptr, v4) + (i64)v520) = v506;
-    at(u64, v396) = v521;
-    at(u64, v395) = v519;
-    if (!(v320 > (v519 - v521))) { v533 = v519; v534 = v521; goto v527; }
-    if (!std_alloc_vec_Vec_grow_amortized_1cf2(v4, v320)) goto v530;
-    v533 = at(u64, v395); v534 = at(u64, v396); goto v527;
-v530:;
-    if (at(u64, v395) == 0) goto v368;
-    goto v518;
-v527:;
-    u64 v535 = v534 + v320;
-    u8 *v536 = at(ptr, v4);
-    u64 v537 = (u64)v536;
-    memset(v396, 0, 16u);
-    if (!((((u64)(v536 + (i64)v534)) - ((u64)v317)) < v320)) goto v544;
-    if (v320 < 4) { v580 = 0; goto v546; }
-    if (((v534 + v537) - v318) < 32u) { v580 = 0; goto v546; }
-    if (v320 < 16u) { v569 = 0; goto v553; }
-    u64 v555 = v320 & 12u;
-    u64 v556 = v320 & 0xfffffffffffffff0u;
-    v558 = 0;
-v557:;
-    at(u8x16_1, (v536 + (i64)v534) + v558) = at(u8x16_1, v317 + v558);
-    u64 v559 = v558 + 16u;
-    if (!(v559 == v556)) { v558 = v559; goto v557; }
-    if (v320 == v556) goto v566;
-    if (v555 == 0) { v580 = v556; goto v546; }
-    v569 = v556;
-v553:;
-    u64 v570 = v320 & 0xfffffffffffffffcu;
-    v572 = v569;
-v571:;
-    at(u8x4_1, (v536 + (i64)v534) + v572) = at(u8x4_1, v317 + v572);
-    u64 v573 = v572 + 4;
-    if (!(v573 == v570)) { v572 = v573; goto v571; }
-    if (v320 == v570) goto v566;
-    v580 = v570;
-v546:;
-    v582 = v580;
-v581:;
-    at(u8, (v536 + (i64)v534) + v582) = at(u8, v317 + v582);
-    u64 v583 = v582 + 1;
-    if (v583 == v320) goto v566;
-    v582 = v583; goto v581;
-v544:;
-    memmove_any(v536 + (i64)v534, v317, v320);
-v566:;
-    at(u64, v396) = v535;
-    at(u64, v395) = v533;
-    if (v161) goto v590;
-    v597 = at(u64, v4 + 8); v600 = at(u64, v4 + 16); v602 = 0;
-v596:;
-    u64 v604 = v602 << 4;
-    u64 v607 = at(u64, v180 + (i64)v604 + 8);
-    u8 *v608 = at(ptr, v180 + (i64)v604);
-    u64 v609 = (u64)v608;
-    if (!(v607 > (v600 - v597))) { v601 = v600; v619 = v597; goto v613; }
-    if (!std_alloc_vec_Vec_grow_amortized_1cf2(v4, v607)) goto v616;
-    v601 = at(u64, v4 + 16); v619 = at(u64, v4 + 8); goto v613;
-v616:;
-    if (at(u64, v395) == 0) goto v368;
-v518:;
-    sys_rattle_dealloc(at(ptr, v4));
-    goto v368;
-v613:;
-    u64 v598 = v619 + v607;
-    u8 *v620 = at(ptr, v4);
-    u64 v621 = (u64)v620;
-    if (!((((u64)(v620 + (i64)v619)) - ((u64)v608)) < v607)) goto v628;
-    if (v607 < 4) { v663 = 0; goto v630; }
-    if (((v619 + v621) - v609) < 32u) { v663 = 0; goto v630; }
-    if (v607 < 16u) { v652 = 0; goto v637; }
-    u64 v639 = v607 & 12u;
-    u64 v640 = v607 & 0xfffffffffffffff0u;
-    v642 = 0;
-v641:;
-    at(u8x16_1, (v620 + (i64)v619) + v642) = at(u8x16_1, v608 + v642);
-    u64 v643 = v642 + 16u;
-    if (!(v643 == v640)) { v642 = v643; goto v641; }
-    if (v607 == v640) goto v599;
-    if (v639 == 0) { v663 = v640; goto v630; }
-    v652 = v640;
-v637:;
-    u64 v653 = v607 & 0xfffffffffffffffcu;
-    v655 = v652;
-v654:;
-    at(u8x4_1, (v620 + (i64)v619) + v655) = at(u8x4_1, v608 + v655);
-    u64 v656 = v655 + 4;
-    if (!(v656 == v653)) { v655 = v656; goto v654; }
-    if (v607 == v653) goto v599;
-    v663 = v653;
-v630:;
-    v665 = v663;
-v664:;
-    at(u8, (v620 + (i64)v619) + v665) = at(u8, v608 + v665);
-    u64 v666 = v665 + 1;
-    if (v666 == v607) goto v599;
-    v665 = v666; goto v664;
-v628:;
-    memmove_any(v620 + (i64)v619, v608, v607);
-v599:;
-    at(u64, v4 + 8) = v598;
-    at(u64, v4 + 16) = v601;
-    u64 v603 = v602 + 1;
-    if (!(v603 == v160)) { v597 = v598; v600 = v601; v602 = v603; goto v596; }
-v590:;
-    memcpy(v5 + 7, v4, 24u);
-    memcpy(v6 + 7, v5 + 7, 24u);
-    memcpy(v7 + 7, v6 + 7, 24u);
-    v682 = 1; goto v679;
-v368:;
-    memset(v7 + 7, 0, 24u);
-    v682 = 0;
-v679:;
-    if (v161) goto v683;
-    sys_rattle_dealloc(v180);
-v683:;
-    memcpy(v9 + 7, v7 + 7, 24u);
-    if (!v682) goto v685;
-    memcpy(v8, v9 + 7, 24u);
-    v706 = 1; goto v157;
-v170:;
-v685:;
-    if ((v142 != 1) ? 1 : (v155 == 0)) goto v698;
-    sys_rattle_dealloc(v151);
-v698:;
-    if (v136) goto v700;
-    sys_rattle_dealloc(v138);
-v700:;
-    if ((v41 != 1) ? 1 : (v50 == 0)) goto v44;
-    sys_rattle_dealloc(v46);
-    goto v44;
-v157:;
-    memcpy(v12, v8, 24u);
-    memcpy(v14, v12, 24u);
-    memcpy(v17, v13 + 1, 191u);
-    memcpy(v18, v14, 24u);
-    v738 = v15; v739 = 0; v740 = v706; v741 = v51; v742 = v46; v743 = v48; v744 = v50; v745 = v137; v746 = v138; v747 = v139; v748 = (u64)v142; v749 = v151; v750 = v153; v751 = v155; goto v708;
-v145:;
-    if (v136) goto v689;
-    sys_rattle_dealloc(v138);
-v689:;
-    if ((v41 != 1) ? 1 : (v50 == 0)) goto v44;
-    sys_rattle_dealloc(v46);
-v44:;
-    u8 v710 = at(u8, v13 + 24);
-    u8 *v712 = at(ptr, v13 + 32);
-    u64 v714 = at(u64, v13 + 48);
-    u8 v716 = at(u8, v13 + 64);
-    u8 *v718 = at(ptr, v13 + 72);
-    u64 v720 = at(u64, v13 + 88);
-    if (at(u64, v13 + 184) == 0) goto v724;
-    sys_rattle_dealloc(at(ptr, v13 + 168));
-v724:;
-    if ((v710 != 1) ? 1 : (v714 == 0)) goto v731;
-    sys_rattle_dealloc(v712);
-v731:;
-    if ((v716 != 1) ? 1 : (v720 == 0)) goto v736;
-    sys_rattle_dealloc(v718);
-v736:;
-    memset(v17, 0, 191u);
-    memset(v18, 0, 24u);
-    v738 = 0; v739 = 1; v740 = 0; v741 = 0; v742 = (u8 *)0; v743 = 0; v744 = 0; v745 = 0; v746 = (u8 *)0; v747 = 0; v748 = 0; v749 = (u8 *)0; v750 = 0; v751 = 0;
-v708:;
-    v752 = v738; v753 = v739; v754 = v740; v755 = v741; v756 = v742; v757 = v743; v758 = v744; v759 = v745; v760 = v746; v761 = v747; v762 = v748; v763 = v749; v764 = v750; v765 = v751;
-v22:;
-    at(u8, v0) = v753;
-    at(u8, v0 + 8) = v752;
-    memcpy(v0 + 9, v17, 191u);
-    at(u64_1, v0 + 200) = v754;
-    memcpy(v0 + 208, v18, 24u);
-    at(u64_1, v0 + 232) = v755;
-    at(ptr_1, v0 + 240) = v756;
-    at(u64_1, v0 + 248) = v757;
-    at(u64_1, v0 + 256) = v758;
-    at(u64_1, v0 + 264) = v759;
-    at(ptr_1, v0 + 272) = v760;
-    at(u64_1, v0 + 280) = v761;
-    at(u64_1, v0 + 288) = v761;
-    at(u64_1, v0 + 296) = v762;
-    at(ptr_1, v0 + 304) = v763;
-    at(u64_1, v0 + 312) = v764;
-    at(u64_1, v0 + 320) = v765;
-    return;
-}
-
-void font_subset_kind_source_CutOfKind_of_87a4(u8 *v0, u8 *v1) {
-    _Alignas(8) u8 v3[1], v4[32], v5[24], v7[40], v8[40], v9[192], v13[24];
-    u8 v6[31], v12[191], *v33, *v133, *v176, v368, v369, *v372, *v376, *v379, v382, v383, *v386, *v390, *v393;
-    flag v32, v131;
-    u64 v60, v115, v108, v125, v132, v134, v170, v190, v197, v210, v213, v220, v229, v260, v261, v279, v286, v299, v302, v230, v336, v370, v371, v373, v374, v375, v377, v378, v380, v381, v384, v385, v387, v388, v389, v391, v392, v394, v395;
-    u8x16 v199, v288;
-    u8 v10 = at(u8, v1);
-    if (!(v10 == 0)) goto v16;
-    memcpy(v12, v1 + 1, 191u);
-    memset(v13, 0, 24u);
-    v382 = 0; v383 = 0; v384 = 0; v385 = 0; v386 = (u8 *)0; v387 = 0; v388 = 0; v389 = 0; v390 = (u8 *)0; v391 = 0; v392 = 0; v393 = (u8 *)0; v394 = 0; v395 = 0; goto v17;
-v16:;
-    at(u8, v9) = v10;
-    memcpy(v9 + 1, v1 + 1, 191u);
-    if (!(at(u8, v9 + 112) == 1)) { v32 = 0; v33 = (u8 *)0; goto v23; }
-    u8 *v25 = at(ptr, v9 + 120);
-    u8 v27 = at(u8, v25 + 312);
-    v32 = v27 & 1; v33 = (v27 == 1) ? (v25 + 320) : ((u8 *)0);
-v23:;
-    memset(v7, 0, 40u);
-    memset(v8, 0, 40u);
-    divided_tables_metrics_kept_metrics_6f24(v7, v9, 7, 8);
-    u8 v36 = at(u8, v7 + 8);
-    if (!(at(u8, v7) == 0)) goto v39;
-    u8 *v41 = at(ptr, v7 + 16);
-    u64 v43 = at(u64, v7 + 24);
-    u64 v45 = at(u64, v7 + 32);
-    u64 v46 = (u64)v36;
-    u8 *v49 = at(ptr_1, at(ptr, v9 + 8));
-    u64 v50 = (u64)v49;
-    u16 v52 = at(u16_1, v49 + 4);
-    u64 v54 = (u64)bswap16(v52);
-    if (v52 == 0) { v131 = 1; v132 = 0; v133 = (u8 *)0; v134 = 0; goto v56; }
-    v60 = 0;
-v57:;
-    u64 v62 = v60 << 4;
-    if (!((((at(u8, v49 + (i64)v62 + 12) == 112u) & (at(u8, v49 + (i64)v62 + 13) == 111u)) & (at(u8, v49 + (i64)v62 + 14) == 115u)) & (at(u8, v49 + (i64)v62 + 15) == 116u))) goto v58;
-    u64 v86 = (u64)bswap32(at(u32_1, v49 + (i64)v62 + 20));
-    if (bswap32(at(u32_1, v49 + (i64)v62 + 24)) < 32u) { v131 = 1; v132 = 0; v133 = (u8 *)0; v134 = 0; goto v56; }
-    u64_u64 v91 = sys_rattle_alloc(32u, 1);
-    if (!(v91._0 & 1)) goto v95;
-    u64 v96 = v91._1;
-    u8 *v97 = (u8 *)v96;
-    if (!((v96 - ((u64)(v49 + (i64)v86))) < 32u)) goto v102;
-    if ((v96 - (v50 + v86)) < 32u) v115 = 0; else { v108 = 0; goto v107; }
-v106:;
-    at(u8, v97 + v115) = at(u8, (v49 + (i64)v86) + v115);
-    u64 v116 = v115 + 1;
-    if (v116 == 32u) goto v114;
-    v115 = v116; goto v106;
-v107:;
-    at(u8x16_1, v97 + v108) = at(u8x16_1, (v49 + (i64)v86) + v108);
-    u64 v109 = v108 + 16u;
-    if (v109 == 32u) goto v114;
-    v108 = v109; goto v107;
-v102:;
-    memmove(v97, v49 + (i64)v86, 32u);
-v114:;
-    if ((v96 - ((u64)(u8 *)table_62a9c92b)) < 4) v125 = 0; else goto v124;
-v123:;
-    at(u8, v97 + v125) = at(u8, (u8 *)table_62a9c92b + v125);
-    u64 v126 = v125 + 1;
-    if (v126 == 4) { v131 = 0; v132 = 1; v133 = v97; v134 = 32u; goto v56; }
-    v125 = v126; goto v123;
-v124:;
-    at(u32_1, v97) = 768u;
-    v131 = 0; v132 = 1; v133 = v97; v134 = 32u; goto v56;
-v95:;
-    if ((v36 != 1) ? 1 : (v45 == 0)) goto v39;
-    sys_rattle_dealloc(v41);
-    goto v39;
-v58:;
-    u64 v59 = v60 + 1;
-    if (v59 == v54) { v131 = 1; v132 = 0; v133 = (u8 *)0; v134 = 0; } else { v60 = v59; goto v57; }
-v56:;
-    divided_tables_metrics_kept_metrics_6f24(v8, v9, 14u, 15u);
-    u8 v137 = at(u8, v8 + 8);
-    if (!(at(u8, v8) == 0)) goto v140;
-    u8 *v146 = at(ptr, v8 + 16);
-    u64 v148 = at(u64, v8 + 24);
-    u64 v150 = at(u64, v8 + 32);
-    if (!v32) goto v152;
-    memset(v4, 0, 32u);
-    u16 v155 = at(u16, v33 + 66);
+    u16 v155 = at(u16, v30 + 458);
     u64 v156 = (u64)v155;
     flag v157 = v155 == 0;
     if (v157) { v176 = v3; goto v158; }
@@ -5609,8 +5410,8 @@ v169:;
     u64 v171 = v170 + 1;
     if (v171 == v156) v176 = v168; else { v170 = v171; goto v169; }
 v158:;
-    u8 *v178 = at(ptr, v9 + 168);
-    u64 v180 = at(u64, v9 + 176);
+    u8 *v178 = at(ptr, v13 + 168);
+    u64 v180 = at(u64, v13 + 176);
     if (v180 == 0) { v210 = 0; goto v182; }
     if (at(u8, v178) & 1) { v220 = 0; goto v186; }
     if (v180 < 64u) { v210 = 0; goto v182; }
@@ -5636,10 +5437,10 @@ v186:;
     if (!(v155 > ((u16)v220))) goto v224;
     v229 = v220;
 v228:;
-    u8 *v233 = at(ptr_1, v33 + 16);
-    u8 *v234 = at(ptr_1, v33 + 32);
+    u8 *v233 = at(ptr_1, v30 + 408);
+    u8 *v234 = at(ptr_1, v30 + 424);
     u64 v235 = v229 & 65535u;
-    if (!(at(u8, v33 + 64) == 0)) goto v238;
+    if (!(at(u8, v30 + 456) == 0)) goto v238;
     u64 v239 = v235 << 1;
     v260 = ((u64)bswap16(at(u16_1, v233 + (i64)v239))) << 1; v261 = ((u64)bswap16(at(u16_1, v233 + (i64)v239 + 2))) << 1; goto v250;
 v238:;
@@ -5675,85 +5476,563 @@ v301:;
 v231:;
     if (v155 > ((u16)v230)) { v229 = v230; goto v228; }
 v224:;
-    divided_tables_variation_data_with_data(v4, v33, v176, v156);
-    if (v157) goto v311;
+    memset(v6, 0, 31u);
+    u8 *v311 = at(ptr_1, v30 + 392);
+    u8 *v313 = at(ptr_1, v30 + 440);
+    u64 v314 = (u64)v313;
+    u64 v316 = at(u64_1, v30 + 448);
+    memset(v5, 0, 31u);
+    memset(v4, 0, 24u);
+    u64 v318 = (v156 << 2) + 24u;
+    u64 v319 = v316 + v318;
+    if (v157) { v352 = 0; goto v320; }
+    if (v155 < 3) { v340 = 0; v341 = 0; goto v323; }
+    u64 v326 = (v156 | 0xfffffffffffffffeu) + v156;
+    v328 = 0; v330 = (u64x2){0};
+v327:;
+    u64x4 v335 = at(u64x4_8, v176 + (i64)(v328 << 4) + 8);
+    u64x2 v331 = (u64x2){v335[0], v335[2]} + v330;
+    u64 v329 = v328 + 2;
+    if (!(v329 == v326)) { v328 = v329; v330 = v331; goto v327; }
+    v340 = sum_u64x2(v331); v341 = v326;
+v323:;
+    v343 = v340; v345 = v341;
+v342:;
+    u64 v344 = at(u64, v176 + (i64)(v345 << 4) + 8) + v343;
+    u64 v346 = v345 + 1;
+    if (v346 == v156) v352 = v344; else { v343 = v344; v345 = v346; goto v342; }
+v320:;
+    u64 v353 = v352 + v319;
+    if (!(v353 == 0)) goto v356;
+    at(ptr, v4) = v3;
+    memset(v4 + 8, 0, 16u);
+    v378 = (u32)v319; v379 = (u32)v318; v380 = v4 + 16; v381 = v4 + 8; goto v361;
+v356:;
+    if (!((i64)v353 > (i64)0xffffffffffffffffu)) goto v364;
+    u64_u64 v366 = sys_rattle_alloc(v353, 1);
+    if (!(v366._0 & 1)) goto v364;
+    u8 *v371 = (u8 *)v366._1;
+    at(ptr, v4) = v371;
+    at(u64, v4 + 8) = 0;
+    at(u64, v4 + 16) = v353;
+    u32 v374 = (u32)v318;
+    u32 v375 = (u32)v319;
+    if (v353 < 8) { v378 = v375; v379 = v374; v380 = v4 + 16; v381 = v4 + 8; } else { v388 = v371; v389 = v375; v390 = v374; v391 = v4 + 16; v392 = v4 + 8; v393 = v353; v394 = 0; goto v377; }
+v361:;
+    if (!std_alloc_vec_Vec_grow_amortized_1cf2(v4, 8)) { v511 = v380; goto v384; }
+    v388 = at(ptr, v4); v389 = v378; v390 = v379; v391 = v380; v392 = v381; v393 = at(u64, v380); v394 = at(u64, v381);
+v377:;
+    u64 v395 = v394 + 8;
+    memset(v392, 0, 16u);
+    if ((((u64)(v388 + (i64)v394)) - ((u64)v311)) < 8) v405 = 0; else goto v402;
+v401:;
+    at(u8, (v388 + (i64)v394) + v405) = at(u8, v311 + v405);
+    u64 v406 = v405 + 1;
+    if (v406 == 8) goto v404;
+    v405 = v406; goto v401;
+v402:;
+    at(u64_1, v388 + (i64)v394) = at(u64_1, v311);
+v404:;
+    at(ptr, v4) = v388;
+    at(u64, v392) = v395;
+    at(u64, v391) = v393;
+    u32 v411 = bswap32(v390);
+    if (!((v393 - v395) < 4)) { v421 = v388; v422 = v393; v423 = v395; goto v415; }
+    if (!std_alloc_vec_Vec_grow_amortized_1cf2(v4, 4)) { v511 = v391; goto v384; }
+    v421 = at(ptr, v4); v422 = at(u64, v391); v423 = at(u64, v392);
+v415:;
+    u64 v424 = v423 + 4;
+    at(u32_1, v421 + (i64)v423) = v411;
+    at(ptr, v4) = v421;
+    at(u64, v392) = v424;
+    at(u64, v391) = v422;
+    u16 v426 = bswap16(v155);
+    if (!((v422 - v424) < 2)) { v436 = v421; v437 = v422; v438 = v424; goto v430; }
+    if (!std_alloc_vec_Vec_grow_amortized_1cf2(v4, 2)) { v511 = v391; goto v384; }
+    v436 = at(ptr, v4); v437 = at(u64, v391); v438 = at(u64, v392);
+v430:;
+    u64 v439 = v438 + 2;
+    at(u16_1, v436 + (i64)v438) = v426;
+    at(ptr, v4) = v436;
+    at(u64, v392) = v439;
+    at(u64, v391) = v437;
+    if (!((v437 - v439) < 2)) { v450 = v436; v451 = v437; v452 = v439; goto v444; }
+    if (!std_alloc_vec_Vec_grow_amortized_1cf2(v4, 2)) { v511 = v391; goto v384; }
+    v450 = at(ptr, v4); v451 = at(u64, v391); v452 = at(u64, v392);
+v444:;
+    u64 v453 = v452 + 2;
+    at(u16_1, v450 + (i64)v452) = 256u;
+    at(ptr, v4) = v450;
+    at(u64, v392) = v453;
+    at(u64, v391) = v451;
+    u32 v455 = bswap32(v389);
+    if (!((v451 - v453) < 4)) { v464 = v451; v465 = v453; goto v459; }
+    if (!std_alloc_vec_Vec_grow_amortized_1cf2(v4, 4)) { v511 = v391; goto v384; }
+    v464 = at(u64, v391); v465 = at(u64, v392); goto v459;
+v384:;
+    if (at(u64, v511) == 0) goto v364;
+    goto v514;
+v459:;
+    u64 v466 = v465 + 4;
+    at(u32_1, at(ptr, v4) + (i64)v465) = v455;
+    at(u64, v392) = v466;
+    at(u64, v391) = v464;
+    if (v157) { v500 = v466; v501 = v464; v502 = 0; goto v469; }
+    v471 = v466; v474 = v464; v476 = 0; v478 = 0;
+v470:;
+    u32 v480 = bswap32(v476);
+    if (!((v474 - v471) < 4)) { v475 = v474; v489 = v471; goto v473; }
+    if (!std_alloc_vec_Vec_grow_amortized_1cf2(v4, 4)) goto v486;
+    v475 = at(u64, v391); v489 = at(u64, v392);
+v473:;
+    u64 v472 = v489 + 4;
+    at(u32_1, at(ptr, v4) + (i64)v489) = v480;
+    at(u64, v392) = v472;
+    at(u64, v391) = v475;
+    u32 v477 = v476 + ((u32)at(u64, v176 + (i64)(v478 << 4) + 8));
+    u64 v479 = v478 + 1;
+    if (!(v479 == v156)) { v471 = v472; v474 = v475; v476 = v477; v478 = v479; goto v470; }
+    v500 = v472; v501 = v475; v502 = bswap32(v477);
+v469:;
+    if (!((v501 - v500) < 4)) { v515 = v501; v516 = v500; goto v506; }
+    if (!std_alloc_vec_Vec_grow_amortized_1cf2(v4, 4)) goto v486;
+    v515 = at(u64, v391); v516 = at(u64, v392); goto v506;
+v486:;
+    if (at(u64, v391) == 0) goto v364;
+    goto v514;
+v506:;
+    u64 v517 = v516 + 4;
+    at(u32_1, at(ptr, v4) + (i64)v516) = v502;
+    at(u64, v392) = v517;
+    at(u64, v391) = v515;
+    if (!(v316 > (v515 - v517))) { v529 = v515; v530 = v517; goto v523; }
+    if (!std_alloc_vec_Vec_grow_amortized_1cf2(v4, v316)) goto v526;
+    v529 = at(u64, v391); v530 = at(u64, v392); goto v523;
+v526:;
+    if (at(u64, v391) == 0) goto v364;
+    goto v514;
+v523:;
+    u64 v531 = v530 + v316;
+    u8 *v532 = at(ptr, v4);
+    u64 v533 = (u64)v532;
+    memset(v392, 0, 16u);
+    if (!((((u64)(v532 + (i64)v530)) - ((u64)v313)) < v316)) goto v540;
+    if (v316 < 4) { v576 = 0; goto v542; }
+    if (((v530 + v533) - v314) < 32u) { v576 = 0; goto v542; }
+    if (v316 < 16u) { v565 = 0; goto v549; }
+    u64 v551 = v316 & 12u;
+    u64 v552 = v316 & 0xfffffffffffffff0u;
+    v554 = 0;
+v553:;
+    at(u8x16_1, (v532 + (i64)v530) + v554) = at(u8x16_1, v313 + v554);
+    u64 v555 = v554 + 16u;
+    if (!(v555 == v552)) { v554 = v555; goto v553; }
+    if (v316 == v552) goto v562;
+    if (v551 == 0) { v576 = v552; goto v542; }
+    v565 = v552;
+v549:;
+    u64 v566 = v316 & 0xfffffffffffffffcu;
+    v568 = v565;
+v567:;
+    at(u8x4_1, (v532 + (i64)v530) + v568) = at(u8x4_1, v313 + v568);
+    u64 v569 = v568 + 4;
+    if (!(v569 == v566)) { v568 = v569; goto v567; }
+    if (v316 == v566) goto v562;
+    v576 = v566;
+v542:;
+    v578 = v576;
+v577:;
+    at(u8, (v532 + (i64)v530) + v578) = at(u8, v313 + v578);
+    u64 v579 = v578 + 1;
+    if (v579 == v316) goto v562;
+    v578 = v579; goto v577;
+v540:;
+    memmove_any(v532 + (i64)v530, v313, v316);
+v562:;
+    at(u64, v392) = v531;
+    at(u64, v391) = v529;
+    if (v157) goto v586;
+    v593 = at(u64, v4 + 8); v596 = at(u64, v4 + 16); v598 = 0;
+v592:;
+    u64 v600 = v598 << 4;
+    u64 v603 = at(u64, v176 + (i64)v600 + 8);
+    u8 *v604 = at(ptr, v176 + (i64)v600);
+    u64 v605 = (u64)v604;
+    if (!(v603 > (v596 - v593))) { v597 = v596; v615 = v593; goto v609; }
+    if (!std_alloc_vec_Vec_grow_amortized_1cf2(v4, v603)) goto v612;
+    v597 = at(u64, v4 + 16); v615 = at(u64, v4 + 8); goto v609;
+v612:;
+    if (at(u64, v391) == 0) goto v364;
+v514:;
+    sys_rattle_dealloc(at(ptr, v4));
+    goto v364;
+v609:;
+    u64 v594 = v615 + v603;
+    u8 *v616 = at(ptr, v4);
+    u64 v617 = (u64)v616;
+    if (!((((u64)(v616 + (i64)v615)) - ((u64)v604)) < v603)) goto v624;
+    if (v603 < 4) { v659 = 0; goto v626; }
+    if (((v615 + v617) - v605) < 32u) { v659 = 0; goto v626; }
+    if (v603 < 16u) { v648 = 0; goto v633; }
+    u64 v635 = v603 & 12u;
+    u64 v636 = v603 & 0xfffffffffffffff0u;
+    v638 = 0;
+v637:;
+    at(u8x16_1, (v616 + (i64)v615) + v638) = at(u8x16_1, v604 + v638);
+    u64 v639 = v638 + 16u;
+    if (!(v639 == v636)) { v638 = v639; goto v637; }
+    if (v603 == v636) goto v595;
+    if (v635 == 0) { v659 = v636; goto v626; }
+    v648 = v636;
+v633:;
+    u64 v649 = v603 & 0xfffffffffffffffcu;
+    v651 = v648;
+v650:;
+    at(u8x4_1, (v616 + (i64)v615) + v651) = at(u8x4_1, v604 + v651);
+    u64 v652 = v651 + 4;
+    if (!(v652 == v649)) { v651 = v652; goto v650; }
+    if (v603 == v649) goto v595;
+    v659 = v649;
+v626:;
+    v661 = v659;
+v660:;
+    at(u8, (v616 + (i64)v615) + v661) = at(u8, v604 + v661);
+    u64 v662 = v661 + 1;
+    if (v662 == v603) goto v595;
+    v661 = v662; goto v660;
+v624:;
+    memmove_any(v616 + (i64)v615, v604, v603);
+v595:;
+    at(u64, v4 + 8) = v594;
+    at(u64, v4 + 16) = v597;
+    u64 v599 = v598 + 1;
+    if (!(v599 == v156)) { v593 = v594; v596 = v597; v598 = v599; goto v592; }
+v586:;
+    memcpy(v5 + 7, v4, 24u);
+    memcpy(v6 + 7, v5 + 7, 24u);
+    memcpy(v7 + 7, v6 + 7, 24u);
+    v678 = 1; goto v675;
+v364:;
+    memset(v7 + 7, 0, 24u);
+    v678 = 0;
+v675:;
+    if (v157) goto v679;
     sys_rattle_dealloc(v176);
-v311:;
-    u8 v314 = at(u8, v4);
-    memcpy(v6 + 7, v4 + 8, 24u);
-    if (!(v314 == 0)) goto v313;
-    memcpy(v5, v6 + 7, 24u);
-    v336 = 1; goto v153;
+v679:;
+    memcpy(v9 + 7, v7 + 7, 24u);
+    if (!v678) goto v681;
+    memcpy(v8, v9 + 7, 24u);
+v151:;
+    memcpy(v12, v8, 24u);
+    memcpy(v14, v12, 24u);
+    memcpy(v17, v13 + 1, 191u);
+    memcpy(v18, v14, 24u);
+    v734 = v15; v735 = 0; v736 = (u64)v149; v737 = v43; v738 = v35; v739 = v37; v740 = v39; v741 = v129; v742 = v130; v743 = v131; v744 = (u64)v134; v745 = v136; v746 = v138; v747 = v140; goto v704;
 v166:;
-v313:;
-    if ((v137 != 1) ? 1 : (v150 == 0)) goto v328;
-    sys_rattle_dealloc(v146);
-v328:;
-    if (v131) goto v330;
-    sys_rattle_dealloc(v133);
-v330:;
-    if ((v36 != 1) ? 1 : (v45 == 0)) goto v39;
-    sys_rattle_dealloc(v41);
-    goto v39;
-v152:;
+v681:;
+    if ((v134 != 1) ? 1 : (v140 == 0)) goto v694;
+    sys_rattle_dealloc(v136);
+v694:;
+    if (v128) goto v696;
+    sys_rattle_dealloc(v130);
+v696:;
+    if ((v33 != 1) ? 1 : (v39 == 0)) goto v42;
+    sys_rattle_dealloc(v35);
+    goto v42;
+v143:;
+    if (v128) goto v685;
+    sys_rattle_dealloc(v130);
+v685:;
+    if ((v33 != 1) ? 1 : (v39 == 0)) goto v42;
+    sys_rattle_dealloc(v35);
+v42:;
+    u8 v706 = at(u8, v13 + 24);
+    u8 *v708 = at(ptr, v13 + 32);
+    u64 v710 = at(u64, v13 + 48);
+    u8 v712 = at(u8, v13 + 64);
+    u8 *v714 = at(ptr, v13 + 72);
+    u64 v716 = at(u64, v13 + 88);
+    if (at(u64, v13 + 184) == 0) goto v720;
+    sys_rattle_dealloc(at(ptr, v13 + 168));
+v720:;
+    if ((v706 != 1) ? 1 : (v710 == 0)) goto v727;
+    sys_rattle_dealloc(v708);
+v727:;
+    if ((v712 != 1) ? 1 : (v716 == 0)) goto v732;
+    sys_rattle_dealloc(v714);
+v732:;
+    memset(v17, 0, 191u);
+    memset(v18, 0, 24u);
+    v734 = 0; v735 = 1; v736 = 0; v737 = 0; v738 = (u8 *)0; v739 = 0; v740 = 0; v741 = 0; v742 = (u8 *)0; v743 = 0; v744 = 0; v745 = (u8 *)0; v746 = 0; v747 = 0;
+v704:;
+    v748 = v734; v749 = v735; v750 = v736; v751 = v737; v752 = v738; v753 = v739; v754 = v740; v755 = v741; v756 = v742; v757 = v743; v758 = v744; v759 = v745; v760 = v746; v761 = v747;
+v22:;
+    at(u8, v0) = v749;
+    at(u8, v0 + 8) = v748;
+    memcpy(v0 + 9, v17, 191u);
+    at(u64_1, v0 + 200) = v750;
+    memcpy(v0 + 208, v18, 24u);
+    at(u64_1, v0 + 232) = v751;
+    at(ptr_1, v0 + 240) = v752;
+    at(u64_1, v0 + 248) = v753;
+    at(u64_1, v0 + 256) = v754;
+    at(u64_1, v0 + 264) = v755;
+    at(ptr_1, v0 + 272) = v756;
+    at(u64_1, v0 + 280) = v757;
+    at(u64_1, v0 + 288) = v757;
+    at(u64_1, v0 + 296) = v758;
+    at(ptr_1, v0 + 304) = v759;
+    at(u64_1, v0 + 312) = v760;
+    at(u64_1, v0 + 320) = v761;
+    return;
+v28:;
+    __builtin_trap();
+    __builtin_trap();
+}
+
+void font_subset_kind_source_CutOfKind_of_87a4(u8 *v0, u8 *v1) {
+    _Alignas(8) u8 v3[1], v4[32], v5[24], v7[40], v8[40], v9[192], v13[24];
+    u8 v6[31], v12[191], *v125, *v172, v364, v365, *v368, *v372, *v375, v378, v379, *v382, *v386, *v389;
+    u64 v52, v107, v100, v117, v124, v126, v166, v186, v193, v206, v209, v216, v225, v256, v257, v275, v282, v295, v298, v226, v366, v367, v369, v370, v371, v373, v374, v376, v377, v380, v381, v383, v384, v385, v387, v388, v390, v391;
+    flag v123;
+    u8x16 v195, v284;
+    u8 v10 = at(u8, v1);
+    if (!(v10 == 0)) goto v16;
+    memcpy(v12, v1 + 1, 191u);
+    memset(v13, 0, 24u);
+    v378 = 0; v379 = 0; v380 = 0; v381 = 0; v382 = (u8 *)0; v383 = 0; v384 = 0; v385 = 0; v386 = (u8 *)0; v387 = 0; v388 = 0; v389 = (u8 *)0; v390 = 0; v391 = 0; goto v17;
+v16:;
+    at(u8, v9) = v10;
+    memcpy(v9 + 1, v1 + 1, 191u);
+    if (!(at(u8, v9 + 112) == 1)) goto v23;
+    u8 *v25 = at(ptr, v9 + 120);
+    memset(v8, 0, 40u);
+    divided_tables_metrics_kept_metrics_6f24(v8, v9, 7, 8);
+    u8 v28 = at(u8, v8 + 8);
+    u8 *v30 = at(ptr, v8 + 16);
+    u64 v32 = at(u64, v8 + 24);
+    u64 v34 = at(u64, v8 + 32);
+    if (!(at(u8, v8) == 0)) goto v37;
+    u64 v38 = (u64)v28;
+    u8 *v41 = at(ptr_1, at(ptr, v9 + 8));
+    u64 v42 = (u64)v41;
+    u16 v44 = at(u16_1, v41 + 4);
+    u64 v46 = (u64)bswap16(v44);
+    if (v44 == 0) { v123 = 1; v124 = 0; v125 = (u8 *)0; v126 = 0; goto v48; }
+    v52 = 0;
+v49:;
+    u64 v54 = v52 << 4;
+    if (!((((at(u8, v41 + (i64)v54 + 12) == 112u) & (at(u8, v41 + (i64)v54 + 13) == 111u)) & (at(u8, v41 + (i64)v54 + 14) == 115u)) & (at(u8, v41 + (i64)v54 + 15) == 116u))) goto v50;
+    u64 v78 = (u64)bswap32(at(u32_1, v41 + (i64)v54 + 20));
+    if (bswap32(at(u32_1, v41 + (i64)v54 + 24)) < 32u) { v123 = 1; v124 = 0; v125 = (u8 *)0; v126 = 0; goto v48; }
+    u64_u64 v83 = sys_rattle_alloc(32u, 1);
+    if (!(v83._0 & 1)) goto v87;
+    u64 v88 = v83._1;
+    u8 *v89 = (u8 *)v88;
+    if (!((v88 - ((u64)(v41 + (i64)v78))) < 32u)) goto v94;
+    if ((v88 - (v42 + v78)) < 32u) v107 = 0; else { v100 = 0; goto v99; }
+v98:;
+    at(u8, v89 + v107) = at(u8, (v41 + (i64)v78) + v107);
+    u64 v108 = v107 + 1;
+    if (v108 == 32u) goto v106;
+    v107 = v108; goto v98;
+v99:;
+    at(u8x16_1, v89 + v100) = at(u8x16_1, (v41 + (i64)v78) + v100);
+    u64 v101 = v100 + 16u;
+    if (v101 == 32u) goto v106;
+    v100 = v101; goto v99;
+v94:;
+    memmove(v89, v41 + (i64)v78, 32u);
+v106:;
+    if ((v88 - ((u64)(u8 *)table_62a9c92b)) < 4) v117 = 0; else goto v116;
+v115:;
+    at(u8, v89 + v117) = at(u8, (u8 *)table_62a9c92b + v117);
+    u64 v118 = v117 + 1;
+    if (v118 == 4) { v123 = 0; v124 = 1; v125 = v89; v126 = 32u; goto v48; }
+    v117 = v118; goto v115;
+v116:;
+    at(u32_1, v89) = 768u;
+    v123 = 0; v124 = 1; v125 = v89; v126 = 32u; goto v48;
+v87:;
+    if ((v28 != 1) ? 1 : (v34 == 0)) goto v37;
+    sys_rattle_dealloc(v30);
+    goto v37;
+v50:;
+    u64 v51 = v52 + 1;
+    if (v51 == v46) { v123 = 1; v124 = 0; v125 = (u8 *)0; v126 = 0; } else { v52 = v51; goto v49; }
+v48:;
+    memset(v7, 0, 40u);
+    divided_tables_metrics_kept_metrics_6f24(v7, v9, 14u, 15u);
+    u8 v129 = at(u8, v7 + 8);
+    u8 *v131 = at(ptr, v7 + 16);
+    u64 v133 = at(u64, v7 + 24);
+    u64 v135 = at(u64, v7 + 32);
+    if (!(at(u8, v7) == 0)) goto v138;
+    u8 v144 = at(u8, v25 + 384);
+    if (!(v144 == 0)) goto v147;
     memset(v5, 0, 24u);
-    v336 = 0;
-v153:;
+    goto v148;
+v147:;
+    memset(v4, 0, 32u);
+    u16 v151 = at(u16, v25 + 458);
+    u64 v152 = (u64)v151;
+    flag v153 = v151 == 0;
+    if (v153) { v172 = v3; goto v154; }
+    u64_u64 v158 = sys_rattle_alloc(v152 << 4, 8);
+    if (!(v158._0 & 1)) goto v162;
+    u8 *v164 = (u8 *)v158._1;
+    v166 = 0;
+v165:;
+    u64 v168 = v166 << 4;
+    at(ptr_1, v164 + v168) = (u8 *)table_d0e67785;
+    at(u64_1, v164 + v168 + 8) = 0;
+    u64 v167 = v166 + 1;
+    if (v167 == v152) v172 = v164; else { v166 = v167; goto v165; }
+v154:;
+    u8 *v174 = at(ptr, v9 + 168);
+    u64 v176 = at(u64, v9 + 176);
+    if (v176 == 0) { v206 = 0; goto v178; }
+    if (at(u8, v174) & 1) { v216 = 0; goto v182; }
+    if (v176 < 64u) { v206 = 0; goto v178; }
+    v186 = 0;
+v185:;
+    if (v186 == 0xffffffffffffffc0u) goto v188;
+    v193 = 0; v195 = (u8x16){0};
+v192:;
+    u8x16 v196 = v195 | ((-(at(u8x16_1, (v174 + (i64)v186) + (i64)v193) & 1)));
+    u64 v194 = v193 + 16u;
+    if (!(v194 == 64u)) { v193 = v194; v195 = v196; goto v192; }
+    if (!(bits_u8x16(v196) == 0)) { v206 = v186; goto v178; }
+v188:;
+    u64 v187 = v186 + 64u;
+    if ((v176 - v187) < 64u) v206 = v187; else { v186 = v187; goto v185; }
+v178:;
+    if (v206 < v176) v209 = v206; else { v216 = v176; goto v182; }
+v208:;
+    if (at(u8, v174 + v209) & 1) { v216 = v209; goto v182; }
+    u64 v210 = v209 + 1;
+    if (v210 == v176) v216 = v176; else { v209 = v210; goto v208; }
+v182:;
+    if (!(v151 > ((u16)v216))) goto v220;
+    v225 = v216;
+v224:;
+    u8 *v229 = at(ptr_1, v25 + 408);
+    u8 *v230 = at(ptr_1, v25 + 424);
+    u64 v231 = v225 & 65535u;
+    if (!(at(u8, v25 + 456) == 0)) goto v234;
+    u64 v235 = v231 << 1;
+    v256 = ((u64)bswap16(at(u16_1, v229 + (i64)v235))) << 1; v257 = ((u64)bswap16(at(u16_1, v229 + (i64)v235 + 2))) << 1; goto v246;
+v234:;
+    u64 v247 = v231 << 2;
+    v256 = (u64)bswap32(at(u32_1, v229 + (i64)v247)); v257 = (u64)bswap32(at(u32_1, v229 + (i64)v247 + 4));
+v246:;
+    u64 v260 = v231 << 4;
+    at(ptr_1, v172 + (i64)v260) = v230 + (i64)v256;
+    at(u64_1, v172 + (i64)v260 + 8) = v257 - v256;
+    u64 v264 = (v225 + 1) & 65535u;
+    if (!(v176 > v264)) goto v267;
+    if (at(u8, v174 + v264) & 1) { v226 = v264; goto v227; }
+v267:;
+    if ((v176 - v264) < 64u) { v295 = v264; goto v273; }
+    v275 = v264;
+v274:;
+    if (!(v275 < 0xffffffffffffffc0u)) goto v277;
+    v282 = 0; v284 = (u8x16){0};
+v281:;
+    u8x16 v285 = v284 | ((-(at(u8x16_1, (v174 + (i64)v275) + (i64)v282) & 1)));
+    u64 v283 = v282 + 16u;
+    if (!(v283 == 64u)) { v282 = v283; v284 = v285; goto v281; }
+    if (!(bits_u8x16(v285) == 0)) { v295 = v275; goto v273; }
+v277:;
+    u64 v276 = v275 + 64u;
+    if ((v176 - v276) < 64u) v295 = v276; else { v275 = v276; goto v274; }
+v273:;
+    if (v295 < v176) v298 = v295; else { v226 = v176; goto v227; }
+v297:;
+    if (at(u8, v174 + v298) & 1) { v226 = v298; goto v227; }
+    u64 v299 = v298 + 1;
+    if (v299 == v176) v226 = v176; else { v298 = v299; goto v297; }
+v227:;
+    if (v151 > ((u16)v226)) { v225 = v226; goto v224; }
+v220:;
+    divided_tables_glyph_variations_with_data(v4, v25 + 392, v172, v152);
+    if (v153) goto v307;
+    sys_rattle_dealloc(v172);
+v307:;
+    u8 v310 = at(u8, v4);
+    memcpy(v6 + 7, v4 + 8, 24u);
+    if (!(v310 == 0)) goto v309;
+    memcpy(v5, v6 + 7, 24u);
+v148:;
     memcpy(v12, v9 + 1, 191u);
     memcpy(v13, v5, 24u);
-    v368 = v10; v369 = 0; v370 = v336; v371 = v46; v372 = v41; v373 = v43; v374 = v45; v375 = v132; v376 = v133; v377 = v134; v378 = (u64)v137; v379 = v146; v380 = v148; v381 = v150; goto v338;
-v140:;
-    if (v131) goto v319;
-    sys_rattle_dealloc(v133);
-v319:;
-    if ((v36 != 1) ? 1 : (v45 == 0)) goto v39;
-    sys_rattle_dealloc(v41);
-v39:;
-    u8 v340 = at(u8, v9 + 24);
-    u8 *v342 = at(ptr, v9 + 32);
-    u64 v344 = at(u64, v9 + 48);
-    u8 v346 = at(u8, v9 + 64);
-    u8 *v348 = at(ptr, v9 + 72);
-    u64 v350 = at(u64, v9 + 88);
-    if (at(u64, v9 + 184) == 0) goto v354;
+    v364 = v10; v365 = 0; v366 = (u64)v144; v367 = v38; v368 = v30; v369 = v32; v370 = v34; v371 = v124; v372 = v125; v373 = v126; v374 = (u64)v129; v375 = v131; v376 = v133; v377 = v135; goto v334;
+v162:;
+v309:;
+    if ((v129 != 1) ? 1 : (v135 == 0)) goto v324;
+    sys_rattle_dealloc(v131);
+v324:;
+    if (v123) goto v326;
+    sys_rattle_dealloc(v125);
+v326:;
+    if ((v28 != 1) ? 1 : (v34 == 0)) goto v37;
+    sys_rattle_dealloc(v30);
+    goto v37;
+v138:;
+    if (v123) goto v315;
+    sys_rattle_dealloc(v125);
+v315:;
+    if ((v28 != 1) ? 1 : (v34 == 0)) goto v37;
+    sys_rattle_dealloc(v30);
+v37:;
+    u8 v336 = at(u8, v9 + 24);
+    u8 *v338 = at(ptr, v9 + 32);
+    u64 v340 = at(u64, v9 + 48);
+    u8 v342 = at(u8, v9 + 64);
+    u8 *v344 = at(ptr, v9 + 72);
+    u64 v346 = at(u64, v9 + 88);
+    if (at(u64, v9 + 184) == 0) goto v350;
     sys_rattle_dealloc(at(ptr, v9 + 168));
-v354:;
-    if ((v340 != 1) ? 1 : (v344 == 0)) goto v361;
-    sys_rattle_dealloc(v342);
-v361:;
-    if ((v346 != 1) ? 1 : (v350 == 0)) goto v366;
-    sys_rattle_dealloc(v348);
-v366:;
+v350:;
+    if ((v336 != 1) ? 1 : (v340 == 0)) goto v357;
+    sys_rattle_dealloc(v338);
+v357:;
+    if ((v342 != 1) ? 1 : (v346 == 0)) goto v362;
+    sys_rattle_dealloc(v344);
+v362:;
     memset(v12, 0, 191u);
     memset(v13, 0, 24u);
-    v368 = 0; v369 = 1; v370 = 0; v371 = 0; v372 = (u8 *)0; v373 = 0; v374 = 0; v375 = 0; v376 = (u8 *)0; v377 = 0; v378 = 0; v379 = (u8 *)0; v380 = 0; v381 = 0;
-v338:;
-    v382 = v368; v383 = v369; v384 = v370; v385 = v371; v386 = v372; v387 = v373; v388 = v374; v389 = v375; v390 = v376; v391 = v377; v392 = v378; v393 = v379; v394 = v380; v395 = v381;
+    v364 = 0; v365 = 1; v366 = 0; v367 = 0; v368 = (u8 *)0; v369 = 0; v370 = 0; v371 = 0; v372 = (u8 *)0; v373 = 0; v374 = 0; v375 = (u8 *)0; v376 = 0; v377 = 0;
+v334:;
+    v378 = v364; v379 = v365; v380 = v366; v381 = v367; v382 = v368; v383 = v369; v384 = v370; v385 = v371; v386 = v372; v387 = v373; v388 = v374; v389 = v375; v390 = v376; v391 = v377;
 v17:;
-    at(u8, v0) = v383;
-    at(u8, v0 + 8) = v382;
+    at(u8, v0) = v379;
+    at(u8, v0 + 8) = v378;
     memcpy(v0 + 9, v12, 191u);
-    at(u64_1, v0 + 200) = v384;
+    at(u64_1, v0 + 200) = v380;
     memcpy(v0 + 208, v13, 24u);
-    at(u64_1, v0 + 232) = v385;
-    at(ptr_1, v0 + 240) = v386;
-    at(u64_1, v0 + 248) = v387;
-    at(u64_1, v0 + 256) = v388;
-    at(u64_1, v0 + 264) = v389;
-    at(ptr_1, v0 + 272) = v390;
-    at(u64_1, v0 + 280) = v391;
-    at(u64_1, v0 + 288) = v391;
-    at(u64_1, v0 + 296) = v392;
-    at(ptr_1, v0 + 304) = v393;
-    at(u64_1, v0 + 312) = v394;
-    at(u64_1, v0 + 320) = v395;
+    at(u64_1, v0 + 232) = v381;
+    at(ptr_1, v0 + 240) = v382;
+    at(u64_1, v0 + 248) = v383;
+    at(u64_1, v0 + 256) = v384;
+    at(u64_1, v0 + 264) = v385;
+    at(ptr_1, v0 + 272) = v386;
+    at(u64_1, v0 + 280) = v387;
+    at(u64_1, v0 + 288) = v387;
+    at(u64_1, v0 + 296) = v388;
+    at(ptr_1, v0 + 304) = v389;
+    at(u64_1, v0 + 312) = v390;
+    at(u64_1, v0 + 320) = v391;
     return;
+v23:;
+    __builtin_trap();
+    __builtin_trap();
 }
 
 flag font_subset_presence_Presence_has(u8 *v0, u16 v1) {
-    u64 v35, v36, v132, v133;
-    u8 *v65, *v91;
-    flag v66, v92;
+    u64 v35, v36, v131, v132;
+    u8 *v66, *v92;
+    flag v67, v93;
     u8 *v5 = at(ptr, at(ptr, v0) + 8);
     u8 *v9 = at(ptr_1, v5 + 32);
     u64 v10 = (u64)v1;
@@ -5765,154 +6044,47 @@ v13:;
     v35 = (u64)bswap32(at(u32_1, v9 + (i64)v26)); v36 = (u64)bswap32(at(u32_1, v9 + (i64)v26 + 4));
 v25:;
     if (!(v36 == v35)) return 1;
-    u64 v47 = at(u64, v0 + 24);
-    if (v47 == 0) goto v49;
-    u8 *v52 = at(ptr_1, v0 + 8);
-    if (!((v10 + 1) < v47)) goto v56;
-    u64 v57 = v10 << 2;
-    v65 = v52 + v57; v66 = at(u16_1, v52 + v57 + 2) != 0; goto v41;
-v56:;
-    v65 = v52 + ((v47 + v10) << 1); v66 = 0;
-v41:;
-    if (v66 | (((u8)(at(u8, v65) | at(u8, v65 + 1))) != 0)) return 1;
-v49:;
-    u64 v74 = at(u64, v0 + 56);
-    if (v74 == 0) goto v45;
-    u8 *v78 = at(ptr_1, v0 + 40);
-    if (!((v10 + 1) < v74)) goto v82;
-    u64 v83 = v10 << 2;
-    v91 = v78 + v83; v92 = at(u16_1, v78 + v83 + 2) != 0; goto v42;
-v82:;
-    v91 = v78 + ((v74 + v10) << 1); v92 = 0;
-v42:;
-    if (v92 | (((u8)(at(u8, v91) | at(u8, v91 + 1))) != 0)) return 1;
-v45:;
-    if (!(at(u8, v0 + 72) == 1)) return 0;
-    u8 *v104 = at(ptr, v0 + 80);
-    u8 *v108 = at(ptr_1, v104 + 16);
-    if (!(at(u8, v104 + 64) == 0)) goto v111;
-    u64 v112 = v10 << 1;
-    v132 = ((u64)bswap16(at(u16_1, v108 + (i64)v112))) << 1; v133 = ((u64)bswap16(at(u16_1, v108 + (i64)v112 + 2))) << 1; goto v44;
-v111:;
-    u64 v123 = v10 << 2;
-    v132 = (u64)bswap32(at(u32_1, v108 + (i64)v123)); v133 = (u64)bswap32(at(u32_1, v108 + (i64)v123 + 4));
-v44:;
-    return v133 != v132;
-}
-
-void font_subset_presence_Presence_of(u8 *v0, u8 *v1) {
-    u64 v24, v59, v89, v94, v129, v160, v183, v184, v186, v213, v219, v222, v224, v226, v228, v229, v230, v231;
-    u8 *v54, *v90, *v124, *v159, *v211, *v217, *v223, v225, *v227, *v232;
-    flag v55, v125, v185, v212, v218;
-    u8 *v4 = at(ptr, v1 + 8);
-    u16 v6 = at(u16, v4 + 64);
-    u8 *v7 = at(ptr_2, v4);
-    u16 v9 = at(u16_1, v7 + 4);
-    u64 v11 = (u64)bswap16(v9);
-    if (!(v9 == 0)) { v24 = 0; goto v14; }
-    u8 v16 = at(u8, v1 + 312);
-    v225 = v16; v226 = (v16 == 1) ? ((u64)(v1 + 320)) : 0; v227 = (u8 *)table_d0e67785; v228 = 0; v229 = 0; v230 = 0; v231 = 0; v232 = (u8 *)table_d0e67785; goto v21;
-v14:;
-    u64 v27 = v24 << 4;
-    flag v43 = (((at(u8, v7 + (i64)v27 + 12) != 104u) | (at(u8, v7 + (i64)v27 + 13) != 104u)) | (at(u8, v7 + (i64)v27 + 14) != 101u)) | (at(u8, v7 + (i64)v27 + 15) != 97u);
-    if (!v43) goto v44;
-    u64 v23 = v24 + 1;
-    if (v23 == v11) { v54 = (u8 *)0; v55 = 1; goto v26; }
-    v24 = v23; goto v14;
-v44:;
-    v54 = v7 + (i64)((u64)bswap32(at(u32_1, v7 + (i64)v27 + 20))); v55 = bswap32(at(u32_1, v7 + (i64)v27 + 24)) < 36u;
-v26:;
-    v59 = 0;
-v56:;
-    u64 v62 = v59 << 4;
-    flag v78 = (((at(u8, v7 + (i64)v62 + 12) == 104u) & (at(u8, v7 + (i64)v62 + 13) == 109u)) & (at(u8, v7 + (i64)v62 + 14) == 116u)) & (at(u8, v7 + (i64)v62 + 15) == 120u);
-    if (!v78) goto v57;
-    v89 = (u64)bswap32(at(u32_1, v7 + (i64)v62 + 24)); v90 = v7 + (i64)((u64)bswap32(at(u32_1, v7 + (i64)v62 + 20))); goto v61;
+    u8 *v47 = at(ptr, v0 + 8);
+    u64 v49 = at(u64, v47 + 16);
+    if (v49 == 0) goto v51;
+    u8 *v53 = at(ptr_1, v47);
+    if (!((v10 + 1) < v49)) goto v57;
+    u64 v58 = v10 << 2;
+    v66 = v53 + v58; v67 = at(u16_1, v53 + v58 + 2) != 0; goto v44;
 v57:;
-    u64 v58 = v59 + 1;
-    if (v58 == v11) { v89 = 0; v90 = (u8 *)0; } else { v59 = v58; goto v56; }
-v61:;
-    v94 = 0;
-v91:;
-    u64 v97 = v94 << 4;
-    flag v113 = (((at(u8, v7 + (i64)v97 + 12) != 118u) | (at(u8, v7 + (i64)v97 + 13) != 104u)) | (at(u8, v7 + (i64)v97 + 14) != 101u)) | (at(u8, v7 + (i64)v97 + 15) != 97u);
-    if (!v113) goto v114;
-    u64 v93 = v94 + 1;
-    if (v93 == v11) { v124 = (u8 *)0; v125 = 1; goto v96; }
-    v94 = v93; goto v91;
-v114:;
-    v124 = v7 + (i64)((u64)bswap32(at(u32_1, v7 + (i64)v97 + 20))); v125 = bswap32(at(u32_1, v7 + (i64)v97 + 24)) < 36u;
-v96:;
-    v129 = 0;
-v126:;
-    u64 v132 = v129 << 4;
-    flag v148 = (((at(u8, v7 + (i64)v132 + 12) == 118u) & (at(u8, v7 + (i64)v132 + 13) == 109u)) & (at(u8, v7 + (i64)v132 + 14) == 116u)) & (at(u8, v7 + (i64)v132 + 15) == 120u);
-    if (!v148) goto v127;
-    v159 = v7 + (i64)((u64)bswap32(at(u32_1, v7 + (i64)v132 + 20))); v160 = (u64)bswap32(at(u32_1, v7 + (i64)v132 + 24)); goto v131;
-v127:;
-    u64 v128 = v129 + 1;
-    if (v128 == v11) { v159 = (u8 *)0; v160 = 0; } else { v129 = v128; goto v126; }
-v131:;
-    u8 v162 = at(u8, v1 + 312);
-    if (v43 | v55) goto v164;
-    u16 v167 = at(u16_1, v54 + 34);
-    u16 v169 = bswap16(v167);
-    if (!((v167 == 0) | (v6 < v169))) goto v172;
-v164:;
-    if (v148) { v183 = 0; goto v181; }
-    v184 = 0; v185 = 0; v186 = 0; goto v182;
-v172:;
-    u64 v173 = (u64)v169;
-    u64 v180 = (v89 < ((((u64)((u16)(v6 - v169))) << 1) + (v173 << 2))) ? 0 : v173;
-    if (v148) v183 = v180; else { v184 = v180; v185 = 0; v186 = 0; goto v182; }
-v181:;
-    v184 = v183; v185 = 1; v186 = v160;
-v182:;
-    if (v113 | v125) goto v188;
-    u16 v191 = at(u16_1, v124 + 34);
-    u16 v193 = bswap16(v191);
-    if (!((v191 == 0) | (v6 < v193))) goto v196;
-v188:;
-    flag v209 = v162 == 1;
-    if (v78) { v211 = v1 + 320; v212 = v209; v213 = 0; goto v207; }
-    v217 = v1 + 320; v218 = v209; v219 = 0; goto v208;
-v196:;
-    u64 v197 = (u64)v193;
-    u64 v204 = (v186 < ((((u64)((u16)(v6 - v193))) << 1) + (v197 << 2))) ? 0 : v197;
-    flag v205 = v162 == 1;
-    if (v78) { v211 = v1 + 320; v212 = v205; v213 = v204; } else { v217 = v1 + 320; v218 = v205; v219 = v204; goto v208; }
-v207:;
-    u64 v215 = v212 ? ((u64)v211) : 0;
-    if (v185) { v222 = v215; v223 = v90; v224 = v213; goto v216; }
-    v225 = v162; v226 = v215; v227 = v90; v228 = v186; v229 = v89; v230 = v184; v231 = v213; v232 = (u8 *)table_d0e67785; goto v21;
-v208:;
-    u64 v221 = v218 ? ((u64)v217) : 0;
-    if (v185) { v222 = v221; v223 = (u8 *)table_d0e67785; v224 = v219; } else { v225 = v162; v226 = v221; v227 = (u8 *)table_d0e67785; v228 = v186; v229 = v89; v230 = v184; v231 = v219; v232 = (u8 *)table_d0e67785; goto v21; }
-v216:;
-    v225 = v162; v226 = v222; v227 = v223; v228 = v186; v229 = v89; v230 = v184; v231 = v224; v232 = v159;
-v21:;
-    at(ptr_1, v0) = v1;
-    at(ptr_1, v0 + 8) = v227;
-    at(u64_1, v0 + 16) = v229;
-    at(u64_1, v0 + 24) = v230;
-    at(u16_1, v0 + 32) = v6;
-    memset(v0 + 34, 0, 6);
-    at(ptr_1, v0 + 40) = v232;
-    at(u64_1, v0 + 48) = v228;
-    at(u64_1, v0 + 56) = v231;
-    at(u16_1, v0 + 64) = v6;
-    memset(v0 + 66, 0, 6);
-    at(u64_1, v0 + 72) = (u64)v225;
-    at(u64_1, v0 + 80) = v226;
-    return;
+    v66 = v53 + ((v49 + v10) << 1); v67 = 0;
+v44:;
+    if (v67 | (((u8)(at(u8, v66) | at(u8, v66 + 1))) != 0)) return 1;
+v51:;
+    u64 v75 = at(u64, v47 + 48);
+    if (v75 == 0) goto v41;
+    u8 *v79 = at(ptr_1, v47 + 32);
+    if (!((v10 + 1) < v75)) goto v83;
+    u64 v84 = v10 << 2;
+    v92 = v79 + v84; v93 = at(u16_1, v79 + v84 + 2) != 0; goto v45;
+v83:;
+    v92 = v79 + ((v75 + v10) << 1); v93 = 0;
+v45:;
+    if (v93 | (((u8)(at(u8, v92) | at(u8, v92 + 1))) != 0)) return 1;
+v41:;
+    if (!(at(u8, v47 + 72) == 1)) return 0;
+    u8 *v107 = at(ptr_1, v47 + 96);
+    if (!(at(u8, v47 + 144) == 0)) goto v110;
+    u64 v111 = v10 << 1;
+    v131 = ((u64)bswap16(at(u16_1, v107 + (i64)v111))) << 1; v132 = ((u64)bswap16(at(u16_1, v107 + (i64)v111 + 2))) << 1; goto v43;
+v110:;
+    u64 v122 = v10 << 2;
+    v131 = (u64)bswap32(at(u32_1, v107 + (i64)v122)); v132 = (u64)bswap32(at(u32_1, v107 + (i64)v122 + 4));
+v43:;
+    return v132 != v131;
 }
 
 static void font_subset_presence_mark_between(u8 *v0, u8 *v1, u16 v2, u16 v3) {
-    u64 v20, v75, v76, v106, v140, v123, v127, v165, v181, v186, v199, v203, v231, v265, v248, v252, v298, v313, v318, v331, v335, v275, v345;
+    u64 v20, v75, v76, v107, v141, v124, v128, v166, v182, v187, v200, v204, v232, v266, v249, v253, v299, v314, v319, v332, v336, v276, v346;
     u8 *v45;
-    u8x16 v108, v167, v233, v300;
-    flag v138, v124, v146, v182, v198, v201, v209, v263, v249, v271, v314, v330, v333, v341;
-    u32x4 v129, v188, v254, v320;
+    u8x16 v109, v168, v234, v301;
+    flag v139, v125, v147, v183, v199, v202, v210, v264, v250, v272, v315, v331, v334, v342;
+    u32x4 v130, v189, v255, v321;
     u8 *v7 = at(ptr, at(ptr, v1) + 8);
     u8 v9 = at(u8, v7 + 70);
     u8 *v10 = at(ptr_1, v7);
@@ -5935,162 +6107,163 @@ v49:;
     v75 = (u64)bswap32(at(u32_1, v45 + (i64)(v46 << 2))); v76 = (u64)bswap32(at(u32_1, v45 + (i64)(((u64)v3) << 2)));
 v63:;
     if (!(v75 == v76)) goto v79;
-    if (at(u8, v1 + 72) == 1) goto v79;
-    u8 *v85 = at(ptr_1, v1 + 8);
-    u64 v87 = at(u64, v1 + 24);
-    u64 v88 = (u64)v3;
-    if (v87 == 0) goto v90;
-    if (!(v87 > v88)) goto v94;
-    u64 v95 = v46 << 2;
-    u64 v97 = v88 - v46;
-    u64 v98 = v97 << 2;
-    if (v3 == v2) goto v90;
-    if (v98 < 16u) { v123 = 0; v124 = 0; goto v102; }
-    u64 v104 = v98 & 0xfffffffffffffff0u;
-    v106 = 0; v108 = (u8x16){0};
-v105:;
-    u8x16 v109 = v108 | ((u8x16)(at(u8x16_1, (v85 + (i64)v95) + v106) != (u8x16){0}));
-    u64 v107 = v106 + 16u;
-    if (!(v107 == v104)) { v106 = v107; v108 = v109; goto v105; }
-    flag v116 = bits_u8x16(v109) != 0;
-    if (v98 == v104) { v146 = v116; goto v118; }
-    if ((v97 & 3) == 0) { v138 = v116; v140 = v104; } else { v123 = v104; v124 = v116; goto v102; }
-v122:;
-    flag v139 = v138 | (at(u8, (v85 + (i64)v95) + v140) != 0);
-    u64 v141 = v140 + 1;
-    if (v141 == v98) { v146 = v139; goto v118; }
-    v138 = v139; v140 = v141; goto v122;
-v102:;
-    v127 = v123; v129 = (u32x4){-(u32)v124, 0, 0, 0};
-v126:;
-    u32x4 v130 = v129 | ((u32x4)__builtin_convertvector((i8x4)(u8x4)(at(u8x4_1, (v85 + (i64)v95) + v127) != (u8x4){0}), i32x4));
-    u64 v128 = v127 + 4;
-    if (!(v128 == v98)) { v127 = v128; v129 = v130; goto v126; }
-    v146 = bits_u32x4(v130) != 0;
-v118:;
-    if (v146) goto v79;
-    goto v90;
-v94:;
-    if (v87 > (v46 + 1)) goto v79;
-    u64 v151 = (v87 + v46) << 1;
-    u64 v153 = v88 - v46;
-    u64 v154 = v153 << 1;
-    if (v3 == v2) goto v90;
-    if (v154 < 4) { v198 = 0; v199 = 0; goto v158; }
-    if (v154 < 16u) { v181 = 0; v182 = 0; goto v161; }
-    u64 v163 = v154 & 0xfffffffffffffff0u;
-    v165 = 0; v167 = (u8x16){0};
-v164:;
-    u8x16 v168 = v167 | ((u8x16)(at(u8x16_1, (v85 + (i64)v151) + v165) != (u8x16){0}));
-    u64 v166 = v165 + 16u;
-    if (!(v166 == v163)) { v165 = v166; v167 = v168; goto v164; }
-    flag v175 = bits_u8x16(v168) != 0;
-    if (v154 == v163) { v209 = v175; goto v177; }
-    if ((v153 & 6) == 0) { v198 = v175; v199 = v163; goto v158; }
-    v181 = v163; v182 = v175;
-v161:;
-    u64 v183 = v154 & 0xfffffffffffffffcu;
-    v186 = v181; v188 = (u32x4){-(u32)v182, 0, 0, 0};
-v185:;
-    u32x4 v189 = v188 | ((u32x4)__builtin_convertvector((i8x4)(u8x4)(at(u8x4_1, (v85 + (i64)v151) + v186) != (u8x4){0}), i32x4));
-    u64 v187 = v186 + 4;
-    if (!(v187 == v183)) { v186 = v187; v188 = v189; goto v185; }
-    flag v196 = bits_u32x4(v189) != 0;
-    if (v154 == v183) { v209 = v196; goto v177; }
-    v198 = v196; v199 = v183;
-v158:;
-    v201 = v198; v203 = v199;
-v200:;
-    flag v202 = v201 | (at(u8, (v85 + (i64)v151) + v203) != 0);
-    u64 v204 = v203 + 1;
-    if (v204 == v154) v209 = v202; else { v201 = v202; v203 = v204; goto v200; }
-v177:;
-    if (v209) goto v79;
-v90:;
-    u8 *v211 = at(ptr_1, v1 + 40);
-    u64 v213 = at(u64, v1 + 56);
-    if (v213 == 0) return;
-    if (!(v213 > v88)) goto v219;
-    u64 v220 = v46 << 2;
-    u64 v222 = v88 - v46;
-    u64 v223 = v222 << 2;
+    u8 *v81 = at(ptr, v1 + 8);
+    if (at(u8, v81 + 72) == 1) goto v79;
+    u8 *v86 = at(ptr_1, v81);
+    u64 v88 = at(u64, v81 + 16);
+    u64 v89 = (u64)v3;
+    if (v88 == 0) goto v91;
+    if (!(v88 > v89)) goto v95;
+    u64 v96 = v46 << 2;
+    u64 v98 = v89 - v46;
+    u64 v99 = v98 << 2;
+    if (v3 == v2) goto v91;
+    if (v99 < 16u) { v124 = 0; v125 = 0; goto v103; }
+    u64 v105 = v99 & 0xfffffffffffffff0u;
+    v107 = 0; v109 = (u8x16){0};
+v106:;
+    u8x16 v110 = v109 | ((u8x16)(at(u8x16_1, (v86 + (i64)v96) + v107) != (u8x16){0}));
+    u64 v108 = v107 + 16u;
+    if (!(v108 == v105)) { v107 = v108; v109 = v110; goto v106; }
+    flag v117 = bits_u8x16(v110) != 0;
+    if (v99 == v105) { v147 = v117; goto v119; }
+    if ((v98 & 3) == 0) { v139 = v117; v141 = v105; } else { v124 = v105; v125 = v117; goto v103; }
+v123:;
+    flag v140 = v139 | (at(u8, (v86 + (i64)v96) + v141) != 0);
+    u64 v142 = v141 + 1;
+    if (v142 == v99) { v147 = v140; goto v119; }
+    v139 = v140; v141 = v142; goto v123;
+v103:;
+    v128 = v124; v130 = (u32x4){-(u32)v125, 0, 0, 0};
+v127:;
+    u32x4 v131 = v130 | ((u32x4)__builtin_convertvector((i8x4)(u8x4)(at(u8x4_1, (v86 + (i64)v96) + v128) != (u8x4){0}), i32x4));
+    u64 v129 = v128 + 4;
+    if (!(v129 == v99)) { v128 = v129; v130 = v131; goto v127; }
+    v147 = bits_u32x4(v131) != 0;
+v119:;
+    if (v147) goto v79;
+    goto v91;
+v95:;
+    if (v88 > (v46 + 1)) goto v79;
+    u64 v152 = (v88 + v46) << 1;
+    u64 v154 = v89 - v46;
+    u64 v155 = v154 << 1;
+    if (v3 == v2) goto v91;
+    if (v155 < 4) { v199 = 0; v200 = 0; goto v159; }
+    if (v155 < 16u) { v182 = 0; v183 = 0; goto v162; }
+    u64 v164 = v155 & 0xfffffffffffffff0u;
+    v166 = 0; v168 = (u8x16){0};
+v165:;
+    u8x16 v169 = v168 | ((u8x16)(at(u8x16_1, (v86 + (i64)v152) + v166) != (u8x16){0}));
+    u64 v167 = v166 + 16u;
+    if (!(v167 == v164)) { v166 = v167; v168 = v169; goto v165; }
+    flag v176 = bits_u8x16(v169) != 0;
+    if (v155 == v164) { v210 = v176; goto v178; }
+    if ((v154 & 6) == 0) { v199 = v176; v200 = v164; goto v159; }
+    v182 = v164; v183 = v176;
+v162:;
+    u64 v184 = v155 & 0xfffffffffffffffcu;
+    v187 = v182; v189 = (u32x4){-(u32)v183, 0, 0, 0};
+v186:;
+    u32x4 v190 = v189 | ((u32x4)__builtin_convertvector((i8x4)(u8x4)(at(u8x4_1, (v86 + (i64)v152) + v187) != (u8x4){0}), i32x4));
+    u64 v188 = v187 + 4;
+    if (!(v188 == v184)) { v187 = v188; v189 = v190; goto v186; }
+    flag v197 = bits_u32x4(v190) != 0;
+    if (v155 == v184) { v210 = v197; goto v178; }
+    v199 = v197; v200 = v184;
+v159:;
+    v202 = v199; v204 = v200;
+v201:;
+    flag v203 = v202 | (at(u8, (v86 + (i64)v152) + v204) != 0);
+    u64 v205 = v204 + 1;
+    if (v205 == v155) v210 = v203; else { v202 = v203; v204 = v205; goto v201; }
+v178:;
+    if (v210) goto v79;
+v91:;
+    u8 *v212 = at(ptr_1, v81 + 32);
+    u64 v214 = at(u64, v81 + 48);
+    if (v214 == 0) return;
+    if (!(v214 > v89)) goto v220;
+    u64 v221 = v46 << 2;
+    u64 v223 = v89 - v46;
+    u64 v224 = v223 << 2;
     if (v3 == v2) return;
-    if (v223 < 16u) { v248 = 0; v249 = 0; goto v227; }
-    u64 v229 = v223 & 0xfffffffffffffff0u;
-    v231 = 0; v233 = (u8x16){0};
-v230:;
-    u8x16 v234 = v233 | ((u8x16)(at(u8x16_1, (v211 + (i64)v220) + v231) != (u8x16){0}));
-    u64 v232 = v231 + 16u;
-    if (!(v232 == v229)) { v231 = v232; v233 = v234; goto v230; }
-    flag v241 = bits_u8x16(v234) != 0;
-    if (v223 == v229) { v271 = v241; goto v243; }
-    if ((v222 & 3) == 0) { v263 = v241; v265 = v229; } else { v248 = v229; v249 = v241; goto v227; }
-v247:;
-    flag v264 = v263 | (at(u8, (v211 + (i64)v220) + v265) != 0);
-    u64 v266 = v265 + 1;
-    if (v266 == v223) { v271 = v264; goto v243; }
-    v263 = v264; v265 = v266; goto v247;
-v227:;
-    v252 = v248; v254 = (u32x4){-(u32)v249, 0, 0, 0};
-v251:;
-    u32x4 v255 = v254 | ((u32x4)__builtin_convertvector((i8x4)(u8x4)(at(u8x4_1, (v211 + (i64)v220) + v252) != (u8x4){0}), i32x4));
-    u64 v253 = v252 + 4;
-    if (!(v253 == v223)) { v252 = v253; v254 = v255; goto v251; }
-    v271 = bits_u32x4(v255) != 0;
-v243:;
-    if (v271 & (v2 < v3)) { v275 = v88; goto v274; }
+    if (v224 < 16u) { v249 = 0; v250 = 0; goto v228; }
+    u64 v230 = v224 & 0xfffffffffffffff0u;
+    v232 = 0; v234 = (u8x16){0};
+v231:;
+    u8x16 v235 = v234 | ((u8x16)(at(u8x16_1, (v212 + (i64)v221) + v232) != (u8x16){0}));
+    u64 v233 = v232 + 16u;
+    if (!(v233 == v230)) { v232 = v233; v234 = v235; goto v231; }
+    flag v242 = bits_u8x16(v235) != 0;
+    if (v224 == v230) { v272 = v242; goto v244; }
+    if ((v223 & 3) == 0) { v264 = v242; v266 = v230; } else { v249 = v230; v250 = v242; goto v228; }
+v248:;
+    flag v265 = v264 | (at(u8, (v212 + (i64)v221) + v266) != 0);
+    u64 v267 = v266 + 1;
+    if (v267 == v224) { v272 = v265; goto v244; }
+    v264 = v265; v266 = v267; goto v248;
+v228:;
+    v253 = v249; v255 = (u32x4){-(u32)v250, 0, 0, 0};
+v252:;
+    u32x4 v256 = v255 | ((u32x4)__builtin_convertvector((i8x4)(u8x4)(at(u8x4_1, (v212 + (i64)v221) + v253) != (u8x4){0}), i32x4));
+    u64 v254 = v253 + 4;
+    if (!(v254 == v224)) { v253 = v254; v255 = v256; goto v252; }
+    v272 = bits_u32x4(v256) != 0;
+v244:;
+    if (v272 & (v2 < v3)) { v276 = v89; goto v275; }
     return;
-v219:;
-    if (v213 > (v46 + 1)) goto v79;
-    u64 v284 = (v213 + v46) << 1;
-    u64 v286 = v88 - v46;
-    u64 v287 = v286 << 1;
+v220:;
+    if (v214 > (v46 + 1)) goto v79;
+    u64 v285 = (v214 + v46) << 1;
+    u64 v287 = v89 - v46;
+    u64 v288 = v287 << 1;
     if (v3 == v2) return;
-    if (v287 < 4) { v330 = 0; v331 = 0; goto v291; }
-    if (v287 < 16u) { v313 = 0; v314 = 0; goto v294; }
-    u64 v296 = v287 & 0xfffffffffffffff0u;
-    v298 = 0; v300 = (u8x16){0};
-v297:;
-    u8x16 v301 = v300 | ((u8x16)(at(u8x16_1, (v211 + (i64)v284) + v298) != (u8x16){0}));
-    u64 v299 = v298 + 16u;
-    if (!(v299 == v296)) { v298 = v299; v300 = v301; goto v297; }
-    flag v308 = bits_u8x16(v301) != 0;
-    if (v287 == v296) { v341 = v308; goto v278; }
-    if ((v286 & 6) == 0) { v330 = v308; v331 = v296; goto v291; }
-    v313 = v296; v314 = v308;
-v294:;
-    u64 v315 = v287 & 0xfffffffffffffffcu;
-    v318 = v313; v320 = (u32x4){-(u32)v314, 0, 0, 0};
-v317:;
-    u32x4 v321 = v320 | ((u32x4)__builtin_convertvector((i8x4)(u8x4)(at(u8x4_1, (v211 + (i64)v284) + v318) != (u8x4){0}), i32x4));
-    u64 v319 = v318 + 4;
-    if (!(v319 == v315)) { v318 = v319; v320 = v321; goto v317; }
-    flag v328 = bits_u32x4(v321) != 0;
-    if (v287 == v315) { v341 = v328; goto v278; }
-    v330 = v328; v331 = v315;
-v291:;
-    v333 = v330; v335 = v331;
-v332:;
-    flag v334 = v333 | (at(u8, (v211 + (i64)v284) + v335) != 0);
-    u64 v336 = v335 + 1;
-    if (v336 == v287) v341 = v334; else { v333 = v334; v335 = v336; goto v332; }
-v278:;
-    if (v341 & (v2 < v3)) { v275 = v88; goto v274; }
+    if (v288 < 4) { v331 = 0; v332 = 0; goto v292; }
+    if (v288 < 16u) { v314 = 0; v315 = 0; goto v295; }
+    u64 v297 = v288 & 0xfffffffffffffff0u;
+    v299 = 0; v301 = (u8x16){0};
+v298:;
+    u8x16 v302 = v301 | ((u8x16)(at(u8x16_1, (v212 + (i64)v285) + v299) != (u8x16){0}));
+    u64 v300 = v299 + 16u;
+    if (!(v300 == v297)) { v299 = v300; v301 = v302; goto v298; }
+    flag v309 = bits_u8x16(v302) != 0;
+    if (v288 == v297) { v342 = v309; goto v279; }
+    if ((v287 & 6) == 0) { v331 = v309; v332 = v297; goto v292; }
+    v314 = v297; v315 = v309;
+v295:;
+    u64 v316 = v288 & 0xfffffffffffffffcu;
+    v319 = v314; v321 = (u32x4){-(u32)v315, 0, 0, 0};
+v318:;
+    u32x4 v322 = v321 | ((u32x4)__builtin_convertvector((i8x4)(u8x4)(at(u8x4_1, (v212 + (i64)v285) + v319) != (u8x4){0}), i32x4));
+    u64 v320 = v319 + 4;
+    if (!(v320 == v316)) { v319 = v320; v321 = v322; goto v318; }
+    flag v329 = bits_u32x4(v322) != 0;
+    if (v288 == v316) { v342 = v329; goto v279; }
+    v331 = v329; v332 = v316;
+v292:;
+    v334 = v331; v336 = v332;
+v333:;
+    flag v335 = v334 | (at(u8, (v212 + (i64)v285) + v336) != 0);
+    u64 v337 = v336 + 1;
+    if (v337 == v288) v342 = v335; else { v334 = v335; v336 = v337; goto v333; }
+v279:;
+    if (v342 & (v2 < v3)) { v276 = v89; goto v275; }
     return;
 v79:;
     if (!(v2 < v3)) return;
-    v275 = (u64)v3;
-v274:;
-    v345 = v46;
-v279:;
-    if (!(v345 < ((u64)at(u16, at(ptr, at(ptr, v1) + 8) + 64)))) goto v347;
-    u8 *v356 = at(ptr, v0);
-    if (at(u8, v356 + (i64)v345) & 1) goto v347;
-    if (!font_subset_presence_Presence_has(v1, (u16)v345)) goto v347;
-    at(u8, v356 + (i64)v345) = 1;
-v347:;
-    u64 v346 = v345 + 1;
-    if (v346 < v275) { v345 = v346; goto v279; }
+    v276 = (u64)v3;
+v275:;
+    v346 = v46;
+v280:;
+    if (!(v346 < ((u64)at(u16, at(ptr, at(ptr, v1) + 8) + 64)))) goto v348;
+    u8 *v357 = at(ptr, v0);
+    if (at(u8, v357 + (i64)v346) & 1) goto v348;
+    if (!font_subset_presence_Presence_has(v1, (u16)v346)) goto v348;
+    at(u8, v357 + (i64)v346) = 1;
+v348:;
+    u64 v347 = v346 + 1;
+    if (v347 < v276) { v346 = v347; goto v280; }
     return;
 }
 
@@ -6676,63 +6849,61 @@ v279:;
 }
 
 static void font_subset_selection_mark_roots(u8 *v0, u8 *v1, u8 *v2, u8 *v3) {
-    _Alignas(8) u8 v5[24], v6[24], v7[88], v8[88], v9[88], v15[24], v16[24];
+    _Alignas(8) u8 v5[24], v6[24], v7[16], v8[16], v14[24], v15[24];
     u64 v31;
     u16 v58, v62;
     u8 *v63;
-    u8 v10 = at(u8, v3);
-    u8 *v12 = at(ptr_1, v3 + 8);
-    u64 v14 = at(u64_1, v3 + 16);
-    memcpy(v16, v1, 24u);
-    memset(v7, 0, 88u);
-    memset(v9, 0, 88u);
+    u8 v9 = at(u8, v3);
+    u8 *v11 = at(ptr_1, v3 + 8);
+    u64 v13 = at(u64_1, v3 + 16);
+    memcpy(v15, v1, 24u);
     memcpy(v5, v1, 24u);
-    if (at(u8, v2) == 0) { v63 = v16; goto v19; }
-    if (!(v10 == 1)) goto v23;
-    font_subset_presence_Presence_of(v7, v2);
-    memcpy(v8, v7, 88u);
-    if (v14 == 0) goto v25;
-    u8 *v27 = at(ptr, v8);
+    if (at(u8, v2) == 0) { v63 = v15; goto v18; }
+    if (!(v9 == 1)) goto v23;
+    at(ptr, v7) = v2;
+    at(ptr, v7 + 8) = v2 + 312;
+    if (v13 == 0) goto v26;
     u8 *v29 = at(ptr, v5);
     v31 = 0;
 v30:;
-    u16 v36 = at(u16, v12 + (i64)(v31 << 1));
-    if (!(v36 < at(u16, at(ptr, v27 + 8) + 64))) goto v33;
+    u16 v36 = at(u16, v11 + (i64)(v31 << 1));
+    if (!(v36 < at(u16, at(ptr, v2 + 8) + 64))) goto v33;
     u64 v42 = (u64)v36;
     if (at(u8, v29 + (i64)v42) & 1) goto v33;
-    if (!font_subset_presence_Presence_has(v8, v36)) goto v33;
+    if (!font_subset_presence_Presence_has(v7, v36)) goto v33;
     at(u8, v29 + (i64)v42) = 1;
 v33:;
     u64 v32 = v31 + 1;
-    if (v32 == v14) goto v25;
+    if (v32 == v13) goto v26;
     v31 = v32; goto v30;
 v23:;
-    font_subset_presence_Presence_of(v9, v2);
-    u16 v54 = at(u16, at(ptr, at(ptr, v9) + 8) + 64);
+    at(ptr, v8) = v2;
+    at(ptr, v8 + 8) = v2 + 312;
+    u16 v54 = at(u16, at(ptr, v2 + 8) + 64);
     if (v54 > 64u) v58 = 0; else { v62 = 0; goto v57; }
 v56:;
     u16 v59 = (u16)(v58 + 64u);
-    font_subset_presence_mark_between(v5, v9, v58, v59);
+    font_subset_presence_mark_between(v5, v8, v58, v59);
     if (((u16)(v54 - v59)) > 64u) { v58 = v59; goto v56; }
     v62 = v59;
 v57:;
-    font_subset_presence_mark_between(v5, v9, v62, v54);
-v25:;
+    font_subset_presence_mark_between(v5, v8, v62, v54);
+v26:;
     memcpy(v6, v5, 24u);
     v63 = v6;
-v19:;
-    memcpy(v15, v63, 24u);
-    memcpy(v0, v15, 24u);
+v18:;
+    memcpy(v14, v63, 24u);
+    memcpy(v0, v14, 24u);
     return;
 }
 
-static void font_variations_gvar_Variations_open(u8 *v0, u8 *v1, u64 v2, u8 *v3, u16 v4) {
+void font_variations_gvar_Variations_open(u8 *v0, u8 *v1, u64 v2, u8 *v3, u16 v4) {
     u64 v77, v98, v102, v121, v142, v146, v180;
     u16x8 v79;
     flag v97, v100, v158, v141, v144, v159;
     u32x4 v123;
     u32 v178, v179;
-    u8 *v207;
+    u8 *v206;
     u8 *v7 = at(ptr_1, v3 + 8);
     if (v2 < 20u) goto v9;
     if (((at(u8, v3) != 1) ? 1 : (at(u64_1, v3 + 16) < 10u)) | (at(u32_1, v1) != 256u)) goto v9;
@@ -6802,30 +6973,29 @@ v114:;
 v169:;
     u64 v181 = (u64)v179;
     if ((v2 < v181) ? 1 : ((v2 - v181) < v180)) goto v9;
-    u64 v189 = v2 - 20u;
-    u64 v191 = (u64)bswap32(v178);
-    u64 v193 = v2 - v191;
-    u64 v198 = (((u64)bswap16(v22)) << 1) * ((u64)v47);
-    if (v198 == 0) { v207 = (u8 *)table_d0e67785; goto v200; }
-    v207 = v1 + (i64)((u64)bswap32(at(u32_1, v1 + 8)));
-v200:;
-    at(u8, v0) = 0;
+    u64 v188 = v2 - 20u;
+    u64 v190 = (u64)bswap32(v178);
+    u64 v192 = v2 - v190;
+    u64 v197 = (((u64)bswap16(v22)) << 1) * ((u64)v47);
+    if (v197 == 0) { v206 = (u8 *)table_d0e67785; goto v199; }
+    v206 = v1 + (i64)((u64)bswap32(at(u32_1, v1 + 8)));
+v199:;
+    at(u64_1, v0) = 1;
     at(ptr_1, v0 + 8) = v1;
     at(u64_1, v0 + 16) = v2;
     at(ptr_1, v0 + 24) = v1 + 20;
-    at(u64_1, v0 + 32) = v189;
-    at(ptr_1, v0 + 40) = v1 + (i64)v191;
-    at(u64_1, v0 + 48) = v193;
-    at(ptr_1, v0 + 56) = v207;
-    at(u64_1, v0 + 64) = v198;
+    at(u64_1, v0 + 32) = v188;
+    at(ptr_1, v0 + 40) = v1 + (i64)v190;
+    at(u64_1, v0 + 48) = v192;
+    at(ptr_1, v0 + 56) = v206;
+    at(u64_1, v0 + 64) = v197;
     at(u8, v0 + 72) = (u8)(v33 != 0);
     at(u8, v0 + 73) = 0;
     at(u16_1, v0 + 74) = v4;
     at(u32_1, v0 + 76) = 0;
     return;
 v9:;
-    at(u8, v0) = 1;
-    memset(v0 + 8, 0, 72u);
+    memset(v0, 0, 80u);
     return;
 }
 
@@ -7858,7 +8028,7 @@ v13:;
 v9:;
     u16 v32 = at(u16, at(ptr, v1 + 8) + 64);
     if (v32 == 0) { v51 = 0; goto v34; }
-    u8 *v37 = at(ptr, v1 + 528);
+    u8 *v37 = at(ptr, v1 + 608);
     u64 v38 = (u64)v32;
     v40 = 0;
 v39:;
@@ -7866,7 +8036,7 @@ v39:;
     v51 = (u16)v40;
 v34:;
     if (!(v51 < v32)) { v90 = 0; goto v50; }
-    u8 *v55 = at(ptr, v1 + 528);
+    u8 *v55 = at(ptr, v1 + 608);
     v57 = 0; v60 = v51;
 v56:;
     u64 v63 = ((u64)v60) * 24u;
@@ -8927,7 +9097,7 @@ v81:;
 v78:;
     u16 v96 = at(u16, at(ptr, v1 + 8) + 64);
     if (v96 == 0) { v113 = 0; goto v98; }
-    u8 *v100 = at(ptr, v1 + 528);
+    u8 *v100 = at(ptr, v1 + 608);
     u64 v101 = (u64)v96;
     v103 = 0;
 v102:;
@@ -8935,7 +9105,7 @@ v102:;
     v113 = (u16)v103;
 v98:;
     if (!(v113 < v96)) { v426 = 0; goto v93; }
-    u8 *v116 = at(ptr, v1 + 528);
+    u8 *v116 = at(ptr, v1 + 608);
     v118 = 0; v121 = v113;
 v117:;
     u64 v124 = ((u64)v121) * 24u;
@@ -9035,7 +9205,7 @@ v259:;
 v80:;
     u16 v310 = at(u16, at(ptr, v1 + 8) + 64);
     if (v310 == 0) { v327 = 0; goto v312; }
-    u8 *v314 = at(ptr, v1 + 528);
+    u8 *v314 = at(ptr, v1 + 608);
     u64 v315 = (u64)v310;
     v317 = 0;
 v316:;
@@ -9043,7 +9213,7 @@ v316:;
     v327 = (u16)v317;
 v312:;
     if (!(v327 < v310)) { v426 = 0; goto v93; }
-    u8 *v330 = at(ptr, v1 + 528);
+    u8 *v330 = at(ptr, v1 + 608);
     v332 = 0; v335 = 0; v337 = v327;
 v331:;
     u64 v340 = ((u64)v337) * 24u;

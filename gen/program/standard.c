@@ -8743,6 +8743,308 @@ v506:;
     return 1;
 }
 
+u8 std_alloc_string_String_write_fmt_1225(u8 *v0, u8 *v1) {
+    _Alignas(8) u8 v3[88], v4[64], v5[24];
+    u64 v32, v33, v57, v68, v71, v79, v81, v108, v109, v133, v144, v147, v155, v157, v190, v191, v215, v226, v229, v237, v239, v267, v268, v292, v303, v306, v314, v316, v343, v344, v368, v379, v382, v390, v392;
+    memcpy(v3, v1, 88u);
+    u64 v7 = at(u64, v0 + 8);
+    memcpy(v4, v0, 24u);
+    memset(v4 + 48, 0, 16u);
+    at(u32, v4 + 24) = 32u;
+    memset(v4 + 28, 0, 12u);
+    at(u64, v4 + 40) = 0xffffffffffffffffu;
+    u8 *v15 = at(ptr, v3);
+    u64 v16 = (u64)v15;
+    u64 v18 = at(u64, v3 + 8);
+    u64 v20 = at(u64, v4 + 16);
+    u64 v22 = at(u64, v4 + 8);
+    if (!(v18 > (v20 - v22))) { v32 = v20; v33 = v22; goto v26; }
+    if (!std_alloc_vec_Vec_grow_amortized_1cf2(v4, v18)) goto v29;
+    v32 = at(u64, v4 + 16); v33 = at(u64, v4 + 8);
+v26:;
+    u64 v34 = v33 + v18;
+    u8 *v35 = at(ptr, v4);
+    u64 v36 = (u64)v35;
+    if (!((((u64)(v35 + (i64)v33)) - ((u64)v15)) < v18)) goto v43;
+    if (v18 < 4) { v79 = 0; goto v45; }
+    if (((v33 + v36) - v16) < 32u) { v79 = 0; goto v45; }
+    if (v18 < 16u) { v68 = 0; goto v52; }
+    u64 v54 = v18 & 12u;
+    u64 v55 = v18 & 0xfffffffffffffff0u;
+    v57 = 0;
+v56:;
+    at(u8x16_1, (v35 + (i64)v33) + v57) = at(u8x16_1, v15 + v57);
+    u64 v58 = v57 + 16u;
+    if (!(v58 == v55)) { v57 = v58; goto v56; }
+    if (v18 == v55) goto v65;
+    if (v54 == 0) { v79 = v55; goto v45; }
+    v68 = v55;
+v52:;
+    u64 v69 = v18 & 0xfffffffffffffffcu;
+    v71 = v68;
+v70:;
+    at(u8x4_1, (v35 + (i64)v33) + v71) = at(u8x4_1, v15 + v71);
+    u64 v72 = v71 + 4;
+    if (!(v72 == v69)) { v71 = v72; goto v70; }
+    if (v18 == v69) goto v65;
+    v79 = v69;
+v45:;
+    v81 = v79;
+v80:;
+    at(u8, (v35 + (i64)v33) + v81) = at(u8, v15 + v81);
+    u64 v82 = v81 + 1;
+    if (v82 == v18) goto v65;
+    v81 = v82; goto v80;
+v43:;
+    memmove_any(v35 + (i64)v33, v15, v18);
+v65:;
+    at(u64, v4 + 8) = v34;
+    at(u64, v4 + 16) = v32;
+    if (core_fmt_formatter_Formatter_write_piece_0850(v4, v3 + 16) & 1) goto v29;
+    at(u32, v4 + 24) = 32u;
+    memset(v4 + 28, 0, 12u);
+    at(u64, v4 + 40) = 0xffffffffffffffffu;
+    u8 *v90 = at(ptr, v3 + 24);
+    u64 v91 = (u64)v90;
+    u64 v93 = at(u64, v3 + 32);
+    if (!(at(u64, v4 + 48) == 0)) goto v97;
+    u64 v98 = at(u64, v4 + 16);
+    u64 v99 = at(u64, v4 + 8);
+    if (!(v93 > (v98 - v99))) { v108 = v98; v109 = v99; goto v103; }
+    if (!std_alloc_vec_Vec_grow_amortized_1cf2(v4, v93)) goto v29;
+    v108 = at(u64, v4 + 16); v109 = at(u64, v4 + 8);
+v103:;
+    u64 v110 = v109 + v93;
+    u8 *v111 = at(ptr, v4);
+    u64 v112 = (u64)v111;
+    if (!((((u64)(v111 + (i64)v109)) - ((u64)v90)) < v93)) goto v119;
+    if (v93 < 4) { v155 = 0; goto v121; }
+    if (((v109 + v112) - v91) < 32u) { v155 = 0; goto v121; }
+    if (v93 < 16u) { v144 = 0; goto v128; }
+    u64 v130 = v93 & 12u;
+    u64 v131 = v93 & 0xfffffffffffffff0u;
+    v133 = 0;
+v132:;
+    at(u8x16_1, (v111 + (i64)v109) + v133) = at(u8x16_1, v90 + v133);
+    u64 v134 = v133 + 16u;
+    if (!(v134 == v131)) { v133 = v134; goto v132; }
+    if (v93 == v131) goto v141;
+    if (v130 == 0) { v155 = v131; goto v121; }
+    v144 = v131;
+v128:;
+    u64 v145 = v93 & 0xfffffffffffffffcu;
+    v147 = v144;
+v146:;
+    at(u8x4_1, (v111 + (i64)v109) + v147) = at(u8x4_1, v90 + v147);
+    u64 v148 = v147 + 4;
+    if (!(v148 == v145)) { v147 = v148; goto v146; }
+    if (v93 == v145) goto v141;
+    v155 = v145;
+v121:;
+    v157 = v155;
+v156:;
+    at(u8, (v111 + (i64)v109) + v157) = at(u8, v90 + v157);
+    u64 v158 = v157 + 1;
+    if (v158 == v93) goto v141;
+    v157 = v158; goto v156;
+v119:;
+    memmove_any(v111 + (i64)v109, v90, v93);
+v141:;
+    at(u64, v4 + 8) = v110;
+    at(u64, v4 + 16) = v108;
+    goto v163;
+v97:;
+    if (core_fmt_formatter_Formatter_write_indented_04f0(v4, v90, v93) & 1) goto v29;
+v163:;
+    if (core_fmt_formatter_Formatter_write_piece_13a2(v4, v3 + 40) & 1) goto v29;
+    at(u32, v4 + 24) = 32u;
+    memset(v4 + 28, 0, 12u);
+    at(u64, v4 + 40) = 0xffffffffffffffffu;
+    u8 *v172 = at(ptr, v3 + 48);
+    u64 v173 = (u64)v172;
+    u64 v175 = at(u64, v3 + 56);
+    if (!(at(u64, v4 + 48) == 0)) goto v179;
+    u64 v180 = at(u64, v4 + 16);
+    u64 v181 = at(u64, v4 + 8);
+    if (!(v175 > (v180 - v181))) { v190 = v180; v191 = v181; goto v185; }
+    if (!std_alloc_vec_Vec_grow_amortized_1cf2(v4, v175)) goto v29;
+    v190 = at(u64, v4 + 16); v191 = at(u64, v4 + 8);
+v185:;
+    u64 v192 = v191 + v175;
+    u8 *v193 = at(ptr, v4);
+    u64 v194 = (u64)v193;
+    if (!((((u64)(v193 + (i64)v191)) - ((u64)v172)) < v175)) goto v201;
+    if (v175 < 4) { v237 = 0; goto v203; }
+    if (((v191 + v194) - v173) < 32u) { v237 = 0; goto v203; }
+    if (v175 < 16u) { v226 = 0; goto v210; }
+    u64 v212 = v175 & 12u;
+    u64 v213 = v175 & 0xfffffffffffffff0u;
+    v215 = 0;
+v214:;
+    at(u8x16_1, (v193 + (i64)v191) + v215) = at(u8x16_1, v172 + v215);
+    u64 v216 = v215 + 16u;
+    if (!(v216 == v213)) { v215 = v216; goto v214; }
+    if (v175 == v213) goto v223;
+    if (v212 == 0) { v237 = v213; goto v203; }
+    v226 = v213;
+v210:;
+    u64 v227 = v175 & 0xfffffffffffffffcu;
+    v229 = v226;
+v228:;
+    at(u8x4_1, (v193 + (i64)v191) + v229) = at(u8x4_1, v172 + v229);
+    u64 v230 = v229 + 4;
+    if (!(v230 == v227)) { v229 = v230; goto v228; }
+    if (v175 == v227) goto v223;
+    v237 = v227;
+v203:;
+    v239 = v237;
+v238:;
+    at(u8, (v193 + (i64)v191) + v239) = at(u8, v172 + v239);
+    u64 v240 = v239 + 1;
+    if (v240 == v175) goto v223;
+    v239 = v240; goto v238;
+v201:;
+    memmove_any(v193 + (i64)v191, v172, v175);
+v223:;
+    at(u64, v4 + 8) = v192;
+    at(u64, v4 + 16) = v190;
+    goto v245;
+v179:;
+    if (core_fmt_formatter_Formatter_write_indented_04f0(v4, v172, v175) & 1) goto v29;
+v245:;
+    at(u32, v4 + 24) = 32u;
+    memset(v4 + 28, 0, 12u);
+    at(u64, v4 + 40) = 0xffffffffffffffffu;
+    u8 *v248 = at(ptr, v3 + 64);
+    u8 *v249 = at(ptr, v248);
+    u64 v250 = (u64)v249;
+    u64 v252 = at(u64, v248 + 8);
+    if (!(at(u64, v4 + 48) == 0)) goto v256;
+    u64 v257 = at(u64, v4 + 16);
+    u64 v258 = at(u64, v4 + 8);
+    if (!(v252 > (v257 - v258))) { v267 = v257; v268 = v258; goto v262; }
+    if (!std_alloc_vec_Vec_grow_amortized_1cf2(v4, v252)) goto v29;
+    v267 = at(u64, v4 + 16); v268 = at(u64, v4 + 8);
+v262:;
+    u64 v269 = v268 + v252;
+    u8 *v270 = at(ptr, v4);
+    u64 v271 = (u64)v270;
+    if (!((((u64)(v270 + (i64)v268)) - ((u64)v249)) < v252)) goto v278;
+    if (v252 < 4) { v314 = 0; goto v280; }
+    if (((v268 + v271) - v250) < 32u) { v314 = 0; goto v280; }
+    if (v252 < 16u) { v303 = 0; goto v287; }
+    u64 v289 = v252 & 12u;
+    u64 v290 = v252 & 0xfffffffffffffff0u;
+    v292 = 0;
+v291:;
+    at(u8x16_1, (v270 + (i64)v268) + v292) = at(u8x16_1, v249 + v292);
+    u64 v293 = v292 + 16u;
+    if (!(v293 == v290)) { v292 = v293; goto v291; }
+    if (v252 == v290) goto v300;
+    if (v289 == 0) { v314 = v290; goto v280; }
+    v303 = v290;
+v287:;
+    u64 v304 = v252 & 0xfffffffffffffffcu;
+    v306 = v303;
+v305:;
+    at(u8x4_1, (v270 + (i64)v268) + v306) = at(u8x4_1, v249 + v306);
+    u64 v307 = v306 + 4;
+    if (!(v307 == v304)) { v306 = v307; goto v305; }
+    if (v252 == v304) goto v300;
+    v314 = v304;
+v280:;
+    v316 = v314;
+v315:;
+    at(u8, (v270 + (i64)v268) + v316) = at(u8, v249 + v316);
+    u64 v317 = v316 + 1;
+    if (v317 == v252) goto v300;
+    v316 = v317; goto v315;
+v278:;
+    memmove_any(v270 + (i64)v268, v249, v252);
+v300:;
+    at(u64, v4 + 8) = v269;
+    at(u64, v4 + 16) = v267;
+    goto v322;
+v256:;
+    if (core_fmt_formatter_Formatter_write_indented_04f0(v4, v249, v252) & 1) goto v29;
+v322:;
+    at(u32, v4 + 24) = 32u;
+    memset(v4 + 28, 0, 12u);
+    at(u64, v4 + 40) = 0xffffffffffffffffu;
+    u8 *v325 = at(ptr, v3 + 72);
+    u64 v326 = (u64)v325;
+    u64 v328 = at(u64, v3 + 80);
+    if (!(at(u64, v4 + 48) == 0)) goto v332;
+    u64 v333 = at(u64, v4 + 16);
+    u64 v334 = at(u64, v4 + 8);
+    if (!(v328 > (v333 - v334))) { v343 = v333; v344 = v334; goto v338; }
+    if (!std_alloc_vec_Vec_grow_amortized_1cf2(v4, v328)) goto v29;
+    v343 = at(u64, v4 + 16); v344 = at(u64, v4 + 8); goto v338;
+v29:;
+    memcpy(v5, v4, 24u);
+    memcpy(v0, v5, 24u);
+    goto v399;
+v338:;
+    u64 v345 = v344 + v328;
+    u8 *v346 = at(ptr, v4);
+    u64 v347 = (u64)v346;
+    if (!((((u64)(v346 + (i64)v344)) - ((u64)v325)) < v328)) goto v354;
+    if (v328 < 4) { v390 = 0; goto v356; }
+    if (((v344 + v347) - v326) < 32u) { v390 = 0; goto v356; }
+    if (v328 < 16u) { v379 = 0; goto v363; }
+    u64 v365 = v328 & 12u;
+    u64 v366 = v328 & 0xfffffffffffffff0u;
+    v368 = 0;
+v367:;
+    at(u8x16_1, (v346 + (i64)v344) + v368) = at(u8x16_1, v325 + v368);
+    u64 v369 = v368 + 16u;
+    if (!(v369 == v366)) { v368 = v369; goto v367; }
+    if (v328 == v366) goto v376;
+    if (v365 == 0) { v390 = v366; goto v356; }
+    v379 = v366;
+v363:;
+    u64 v380 = v328 & 0xfffffffffffffffcu;
+    v382 = v379;
+v381:;
+    at(u8x4_1, (v346 + (i64)v344) + v382) = at(u8x4_1, v325 + v382);
+    u64 v383 = v382 + 4;
+    if (!(v383 == v380)) { v382 = v383; goto v381; }
+    if (v328 == v380) goto v376;
+    v390 = v380;
+v356:;
+    v392 = v390;
+v391:;
+    at(u8, (v346 + (i64)v344) + v392) = at(u8, v325 + v392);
+    u64 v393 = v392 + 1;
+    if (v393 == v328) goto v376;
+    v392 = v393; goto v391;
+v354:;
+    memmove_any(v346 + (i64)v344, v325, v328);
+v376:;
+    at(u64, v4 + 8) = v345;
+    at(u64, v4 + 16) = v343;
+    memcpy(v5, v4, 24u);
+    memcpy(v0, v5, 24u);
+    return 0;
+v332:;
+    u8 v400 = core_fmt_formatter_Formatter_write_indented_04f0(v4, v325, v328);
+    memcpy(v5, v4, 24u);
+    memcpy(v0, v5, 24u);
+    if (v400 == 0) return 0;
+v399:;
+    u8 *v402 = at(ptr, v0);
+    u64 v403 = at(u64, v0 + 8);
+    if (!((v7 == 0) | (v7 == v403))) goto v408;
+    if (v403 > v7) goto v416;
+    return 1;
+v408:;
+    if (v403 < v7) return 1;
+    if (!((v403 > v7) & ((i8)at(u8, v402 + v7) > (i8)191u))) return 1;
+v416:;
+    at(u64, v0 + 8) = v7;
+    return 1;
+}
+
 u8 std_alloc_string_String_write_fmt_1e15(u8 *v0, u8 *v1) {
     _Alignas(8) u8 v3[64], v4[24];
     u64 v45, v46, v70, v81, v84, v92, v94, v114, v115, v138, v149, v152, v160, v162, v185, v186, v210, v221, v224, v232, v234, v261, v262, v286, v297, v300, v308, v310, v333, v334, v358, v369, v372, v380, v382;
@@ -12179,307 +12481,6 @@ v347:;
     if (v342 < v7) return 1;
     if (!((v342 > v7) & ((i8)at(u8, v341 + v7) > (i8)191u))) return 1;
 v355:;
-    at(u64, v0 + 8) = v7;
-    return 1;
-}
-
-u8 std_alloc_string_String_write_fmt_e990(u8 *v0, u8 *v1) {
-    _Alignas(8) u8 v3[96], v4[64], v5[24];
-    u64 v32, v33, v57, v68, v71, v79, v81, v108, v109, v133, v144, v147, v155, v157, v190, v191, v215, v226, v229, v237, v239, v266, v267, v291, v302, v305, v313, v315, v342, v343, v367, v378, v381, v389, v391;
-    memcpy(v3, v1, 96u);
-    u64 v7 = at(u64, v0 + 8);
-    memcpy(v4, v0, 24u);
-    memset(v4 + 48, 0, 16u);
-    at(u32, v4 + 24) = 32u;
-    memset(v4 + 28, 0, 12u);
-    at(u64, v4 + 40) = 0xffffffffffffffffu;
-    u8 *v15 = at(ptr, v3);
-    u64 v16 = (u64)v15;
-    u64 v18 = at(u64, v3 + 8);
-    u64 v20 = at(u64, v4 + 16);
-    u64 v22 = at(u64, v4 + 8);
-    if (!(v18 > (v20 - v22))) { v32 = v20; v33 = v22; goto v26; }
-    if (!std_alloc_vec_Vec_grow_amortized_1cf2(v4, v18)) goto v29;
-    v32 = at(u64, v4 + 16); v33 = at(u64, v4 + 8);
-v26:;
-    u64 v34 = v33 + v18;
-    u8 *v35 = at(ptr, v4);
-    u64 v36 = (u64)v35;
-    if (!((((u64)(v35 + (i64)v33)) - ((u64)v15)) < v18)) goto v43;
-    if (v18 < 4) { v79 = 0; goto v45; }
-    if (((v33 + v36) - v16) < 32u) { v79 = 0; goto v45; }
-    if (v18 < 16u) { v68 = 0; goto v52; }
-    u64 v54 = v18 & 12u;
-    u64 v55 = v18 & 0xfffffffffffffff0u;
-    v57 = 0;
-v56:;
-    at(u8x16_1, (v35 + (i64)v33) + v57) = at(u8x16_1, v15 + v57);
-    u64 v58 = v57 + 16u;
-    if (!(v58 == v55)) { v57 = v58; goto v56; }
-    if (v18 == v55) goto v65;
-    if (v54 == 0) { v79 = v55; goto v45; }
-    v68 = v55;
-v52:;
-    u64 v69 = v18 & 0xfffffffffffffffcu;
-    v71 = v68;
-v70:;
-    at(u8x4_1, (v35 + (i64)v33) + v71) = at(u8x4_1, v15 + v71);
-    u64 v72 = v71 + 4;
-    if (!(v72 == v69)) { v71 = v72; goto v70; }
-    if (v18 == v69) goto v65;
-    v79 = v69;
-v45:;
-    v81 = v79;
-v80:;
-    at(u8, (v35 + (i64)v33) + v81) = at(u8, v15 + v81);
-    u64 v82 = v81 + 1;
-    if (v82 == v18) goto v65;
-    v81 = v82; goto v80;
-v43:;
-    memmove_any(v35 + (i64)v33, v15, v18);
-v65:;
-    at(u64, v4 + 8) = v34;
-    at(u64, v4 + 16) = v32;
-    if (core_fmt_formatter_Formatter_write_piece_0850(v4, v3 + 16) & 1) goto v29;
-    at(u32, v4 + 24) = 32u;
-    memset(v4 + 28, 0, 12u);
-    at(u64, v4 + 40) = 0xffffffffffffffffu;
-    u8 *v90 = at(ptr, v3 + 24);
-    u64 v91 = (u64)v90;
-    u64 v93 = at(u64, v3 + 32);
-    if (!(at(u64, v4 + 48) == 0)) goto v97;
-    u64 v98 = at(u64, v4 + 16);
-    u64 v99 = at(u64, v4 + 8);
-    if (!(v93 > (v98 - v99))) { v108 = v98; v109 = v99; goto v103; }
-    if (!std_alloc_vec_Vec_grow_amortized_1cf2(v4, v93)) goto v29;
-    v108 = at(u64, v4 + 16); v109 = at(u64, v4 + 8);
-v103:;
-    u64 v110 = v109 + v93;
-    u8 *v111 = at(ptr, v4);
-    u64 v112 = (u64)v111;
-    if (!((((u64)(v111 + (i64)v109)) - ((u64)v90)) < v93)) goto v119;
-    if (v93 < 4) { v155 = 0; goto v121; }
-    if (((v109 + v112) - v91) < 32u) { v155 = 0; goto v121; }
-    if (v93 < 16u) { v144 = 0; goto v128; }
-    u64 v130 = v93 & 12u;
-    u64 v131 = v93 & 0xfffffffffffffff0u;
-    v133 = 0;
-v132:;
-    at(u8x16_1, (v111 + (i64)v109) + v133) = at(u8x16_1, v90 + v133);
-    u64 v134 = v133 + 16u;
-    if (!(v134 == v131)) { v133 = v134; goto v132; }
-    if (v93 == v131) goto v141;
-    if (v130 == 0) { v155 = v131; goto v121; }
-    v144 = v131;
-v128:;
-    u64 v145 = v93 & 0xfffffffffffffffcu;
-    v147 = v144;
-v146:;
-    at(u8x4_1, (v111 + (i64)v109) + v147) = at(u8x4_1, v90 + v147);
-    u64 v148 = v147 + 4;
-    if (!(v148 == v145)) { v147 = v148; goto v146; }
-    if (v93 == v145) goto v141;
-    v155 = v145;
-v121:;
-    v157 = v155;
-v156:;
-    at(u8, (v111 + (i64)v109) + v157) = at(u8, v90 + v157);
-    u64 v158 = v157 + 1;
-    if (v158 == v93) goto v141;
-    v157 = v158; goto v156;
-v119:;
-    memmove_any(v111 + (i64)v109, v90, v93);
-v141:;
-    at(u64, v4 + 8) = v110;
-    at(u64, v4 + 16) = v108;
-    goto v163;
-v97:;
-    if (core_fmt_formatter_Formatter_write_indented_04f0(v4, v90, v93) & 1) goto v29;
-v163:;
-    if (core_fmt_formatter_Formatter_write_piece_13a2(v4, v3 + 40) & 1) goto v29;
-    at(u32, v4 + 24) = 32u;
-    memset(v4 + 28, 0, 12u);
-    at(u64, v4 + 40) = 0xffffffffffffffffu;
-    u8 *v172 = at(ptr, v3 + 48);
-    u64 v173 = (u64)v172;
-    u64 v175 = at(u64, v3 + 56);
-    if (!(at(u64, v4 + 48) == 0)) goto v179;
-    u64 v180 = at(u64, v4 + 16);
-    u64 v181 = at(u64, v4 + 8);
-    if (!(v175 > (v180 - v181))) { v190 = v180; v191 = v181; goto v185; }
-    if (!std_alloc_vec_Vec_grow_amortized_1cf2(v4, v175)) goto v29;
-    v190 = at(u64, v4 + 16); v191 = at(u64, v4 + 8);
-v185:;
-    u64 v192 = v191 + v175;
-    u8 *v193 = at(ptr, v4);
-    u64 v194 = (u64)v193;
-    if (!((((u64)(v193 + (i64)v191)) - ((u64)v172)) < v175)) goto v201;
-    if (v175 < 4) { v237 = 0; goto v203; }
-    if (((v191 + v194) - v173) < 32u) { v237 = 0; goto v203; }
-    if (v175 < 16u) { v226 = 0; goto v210; }
-    u64 v212 = v175 & 12u;
-    u64 v213 = v175 & 0xfffffffffffffff0u;
-    v215 = 0;
-v214:;
-    at(u8x16_1, (v193 + (i64)v191) + v215) = at(u8x16_1, v172 + v215);
-    u64 v216 = v215 + 16u;
-    if (!(v216 == v213)) { v215 = v216; goto v214; }
-    if (v175 == v213) goto v223;
-    if (v212 == 0) { v237 = v213; goto v203; }
-    v226 = v213;
-v210:;
-    u64 v227 = v175 & 0xfffffffffffffffcu;
-    v229 = v226;
-v228:;
-    at(u8x4_1, (v193 + (i64)v191) + v229) = at(u8x4_1, v172 + v229);
-    u64 v230 = v229 + 4;
-    if (!(v230 == v227)) { v229 = v230; goto v228; }
-    if (v175 == v227) goto v223;
-    v237 = v227;
-v203:;
-    v239 = v237;
-v238:;
-    at(u8, (v193 + (i64)v191) + v239) = at(u8, v172 + v239);
-    u64 v240 = v239 + 1;
-    if (v240 == v175) goto v223;
-    v239 = v240; goto v238;
-v201:;
-    memmove_any(v193 + (i64)v191, v172, v175);
-v223:;
-    at(u64, v4 + 8) = v192;
-    at(u64, v4 + 16) = v190;
-    goto v245;
-v179:;
-    if (core_fmt_formatter_Formatter_write_indented_04f0(v4, v172, v175) & 1) goto v29;
-v245:;
-    at(u32, v4 + 24) = 32u;
-    memset(v4 + 28, 0, 12u);
-    at(u64, v4 + 40) = 0xffffffffffffffffu;
-    u8 *v248 = at(ptr, v3 + 64);
-    u64 v249 = (u64)v248;
-    u64 v251 = at(u64, v3 + 72);
-    if (!(at(u64, v4 + 48) == 0)) goto v255;
-    u64 v256 = at(u64, v4 + 16);
-    u64 v257 = at(u64, v4 + 8);
-    if (!(v251 > (v256 - v257))) { v266 = v256; v267 = v257; goto v261; }
-    if (!std_alloc_vec_Vec_grow_amortized_1cf2(v4, v251)) goto v29;
-    v266 = at(u64, v4 + 16); v267 = at(u64, v4 + 8);
-v261:;
-    u64 v268 = v267 + v251;
-    u8 *v269 = at(ptr, v4);
-    u64 v270 = (u64)v269;
-    if (!((((u64)(v269 + (i64)v267)) - ((u64)v248)) < v251)) goto v277;
-    if (v251 < 4) { v313 = 0; goto v279; }
-    if (((v267 + v270) - v249) < 32u) { v313 = 0; goto v279; }
-    if (v251 < 16u) { v302 = 0; goto v286; }
-    u64 v288 = v251 & 12u;
-    u64 v289 = v251 & 0xfffffffffffffff0u;
-    v291 = 0;
-v290:;
-    at(u8x16_1, (v269 + (i64)v267) + v291) = at(u8x16_1, v248 + v291);
-    u64 v292 = v291 + 16u;
-    if (!(v292 == v289)) { v291 = v292; goto v290; }
-    if (v251 == v289) goto v299;
-    if (v288 == 0) { v313 = v289; goto v279; }
-    v302 = v289;
-v286:;
-    u64 v303 = v251 & 0xfffffffffffffffcu;
-    v305 = v302;
-v304:;
-    at(u8x4_1, (v269 + (i64)v267) + v305) = at(u8x4_1, v248 + v305);
-    u64 v306 = v305 + 4;
-    if (!(v306 == v303)) { v305 = v306; goto v304; }
-    if (v251 == v303) goto v299;
-    v313 = v303;
-v279:;
-    v315 = v313;
-v314:;
-    at(u8, (v269 + (i64)v267) + v315) = at(u8, v248 + v315);
-    u64 v316 = v315 + 1;
-    if (v316 == v251) goto v299;
-    v315 = v316; goto v314;
-v277:;
-    memmove_any(v269 + (i64)v267, v248, v251);
-v299:;
-    at(u64, v4 + 8) = v268;
-    at(u64, v4 + 16) = v266;
-    goto v321;
-v255:;
-    if (core_fmt_formatter_Formatter_write_indented_04f0(v4, v248, v251) & 1) goto v29;
-v321:;
-    at(u32, v4 + 24) = 32u;
-    memset(v4 + 28, 0, 12u);
-    at(u64, v4 + 40) = 0xffffffffffffffffu;
-    u8 *v324 = at(ptr, v3 + 80);
-    u64 v325 = (u64)v324;
-    u64 v327 = at(u64, v3 + 88);
-    if (!(at(u64, v4 + 48) == 0)) goto v331;
-    u64 v332 = at(u64, v4 + 16);
-    u64 v333 = at(u64, v4 + 8);
-    if (!(v327 > (v332 - v333))) { v342 = v332; v343 = v333; goto v337; }
-    if (!std_alloc_vec_Vec_grow_amortized_1cf2(v4, v327)) goto v29;
-    v342 = at(u64, v4 + 16); v343 = at(u64, v4 + 8); goto v337;
-v29:;
-    memcpy(v5, v4, 24u);
-    memcpy(v0, v5, 24u);
-    goto v398;
-v337:;
-    u64 v344 = v343 + v327;
-    u8 *v345 = at(ptr, v4);
-    u64 v346 = (u64)v345;
-    if (!((((u64)(v345 + (i64)v343)) - ((u64)v324)) < v327)) goto v353;
-    if (v327 < 4) { v389 = 0; goto v355; }
-    if (((v343 + v346) - v325) < 32u) { v389 = 0; goto v355; }
-    if (v327 < 16u) { v378 = 0; goto v362; }
-    u64 v364 = v327 & 12u;
-    u64 v365 = v327 & 0xfffffffffffffff0u;
-    v367 = 0;
-v366:;
-    at(u8x16_1, (v345 + (i64)v343) + v367) = at(u8x16_1, v324 + v367);
-    u64 v368 = v367 + 16u;
-    if (!(v368 == v365)) { v367 = v368; goto v366; }
-    if (v327 == v365) goto v375;
-    if (v364 == 0) { v389 = v365; goto v355; }
-    v378 = v365;
-v362:;
-    u64 v379 = v327 & 0xfffffffffffffffcu;
-    v381 = v378;
-v380:;
-    at(u8x4_1, (v345 + (i64)v343) + v381) = at(u8x4_1, v324 + v381);
-    u64 v382 = v381 + 4;
-    if (!(v382 == v379)) { v381 = v382; goto v380; }
-    if (v327 == v379) goto v375;
-    v389 = v379;
-v355:;
-    v391 = v389;
-v390:;
-    at(u8, (v345 + (i64)v343) + v391) = at(u8, v324 + v391);
-    u64 v392 = v391 + 1;
-    if (v392 == v327) goto v375;
-    v391 = v392; goto v390;
-v353:;
-    memmove_any(v345 + (i64)v343, v324, v327);
-v375:;
-    at(u64, v4 + 8) = v344;
-    at(u64, v4 + 16) = v342;
-    memcpy(v5, v4, 24u);
-    memcpy(v0, v5, 24u);
-    return 0;
-v331:;
-    u8 v399 = core_fmt_formatter_Formatter_write_indented_04f0(v4, v324, v327);
-    memcpy(v5, v4, 24u);
-    memcpy(v0, v5, 24u);
-    if (v399 == 0) return 0;
-v398:;
-    u8 *v401 = at(ptr, v0);
-    u64 v402 = at(u64, v0 + 8);
-    if (!((v7 == 0) | (v7 == v402))) goto v407;
-    if (v402 > v7) goto v415;
-    return 1;
-v407:;
-    if (v402 < v7) return 1;
-    if (!((v402 > v7) & ((i8)at(u8, v401 + v7) > (i8)191u))) return 1;
-v415:;
     at(u64, v0 + 8) = v7;
     return 1;
 }

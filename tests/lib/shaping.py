@@ -38,13 +38,18 @@ PARTS_OF_VOWELS = {0x17BE: [0x17C1], 0x17BF: [0x17C1], 0x17C0: [0x17C1], 0x17C4:
 MIRRORED = {**dict(zip(map(ord, "()[]{}<>«»‹›"), map(ord, ")(][}{><»«›‹")))}
 
 
-def shaping_built() -> None:
-    """Builds the program. If a package is missing, the script ends here."""
-    built()
+def shaper_there() -> None:
+    """If a package is missing, the script ends here."""
     if not shutil.which("hb-shape"):
         skip_all("shaping", "Debian's package libharfbuzz-bin is not installed")
     if not os.path.isdir(NOTO):
         skip_all("shaping", "Debian's package fonts-noto-core is not installed")
+
+
+def shaping_built() -> None:
+    """Builds the program. If a package is missing, the script ends here."""
+    built()
+    shaper_there()
 
 
 class Script(NamedTuple):

@@ -10,7 +10,8 @@ FILES = {
     "cuts": ["divided_tables", "font_subset", "font_write", "font_layout", "font_variations"],
     "joins": ["commands", "font_join", "map_union"],
     "fonts": ["cmap_subtables", "codes", "font_coverage", "font_file", "font_glyph", "font_map", "font_tables",
-              "font_texts", "sfnt_bytes", "streams", "unicode_normalization", "wanted_characters"],
+              "font_texts", "sfnt_bytes", "streams", "unicode_normalization", "variation_sequences",
+              "wanted_characters"],
 }
 # All other functions, which are the kit's.
 OTHERS = "standard"

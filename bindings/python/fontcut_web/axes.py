@@ -42,7 +42,8 @@ def _uses(page: Page, path: str, axes: Mapping[str, float]) -> bool:
     """Whether a page in a file uses one of these axes, which have these default values. One whose style sheets are not
     all there, or that scripts change, may use any."""
     sheets, lost = sheets_of(page, path)
-    text = COMMENT.sub(" ", "\n".join([*sheets, *(f"{one};" for one in page.attributes.get("style", ()))]))
+    texts = [*(sheet.text for sheet in sheets), *(f"{one};" for one in page.attributes.get("style", ()))]
+    text = COMMENT.sub(" ", "\n".join(texts))
     if lost or "scripts" in page.writers or _ANY.search(text):
         return True
     return any(_is_used(tag, default, page, text) for tag, default in axes.items())

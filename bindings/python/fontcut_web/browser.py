@@ -6,6 +6,7 @@ import fcntl
 import json
 import os
 import select
+import signal
 import subprocess
 import sys
 import time
@@ -32,21 +33,20 @@ class Browser:
         begins = [sys.executable, "-SIc", _BEGINS, *map(str, ends), *words, "--remote-debugging-pipe", "about:blank"]
         try:
             self.process = subprocess.Popen(begins, env=dict(env), pass_fds=ends, stdin=subprocess.DEVNULL,
-                                            stdout=subprocess.DEVNULL, stderr=subprocess.DEVNULL)
+                                            stdout=subprocess.DEVNULL, stderr=subprocess.DEVNULL,
+                                            start_new_session=True)
         finally:
             for end in (its_input, its_output, *ends):
                 os.close(end)
 
     def close(self) -> None:
-        """Ends the browser."""
-        with contextlib.suppress(OSError):
-            os.close(self.told)  # it ends where it is told nothing more
-        try:
-            self.process.wait(10)
-        except subprocess.TimeoutExpired:
-            self.process.kill()
-            self.process.wait()
-        os.close(self.answers)
+        """Ends the browser with its processes. It would end by itself where it is told nothing more, and first write to
+        its profile, which is gone then."""
+        with contextlib.suppress(ProcessLookupError):
+            os.killpg(self.process.pid, signal.SIGKILL)
+        self.process.wait()
+        for end in self.told, self.answers:
+            os.close(end)
 
     def _message(self, until: float) -> Dict[str, Any]:
         """The next message of the browser. Dialogs of pages are closed, which wait for readers."""
@@ -86,6 +86,10 @@ class Browser:
             raise Failed(f"{method}: {answer['error']['message']}")
         result: Dict[str, Any] = answer["result"]
         return result
+
+    def forget(self, event: str, session: str) -> None:
+        """Forgets an event of a page that has come."""
+        self.events = [one for one in self.events if one != (event, session)]
 
     def wait_for(self, event: str, session: str) -> None:
         """Waits for an event of a page since it is attached to."""

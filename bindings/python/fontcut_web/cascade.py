@@ -89,6 +89,12 @@ def tag_of(node: Any) -> str:
     return node.tag.rpartition("}")[2].lower() if isinstance(node.tag, str) else ""
 
 
+def element_of(node: Any) -> Element:
+    """What selectors ask of an element."""
+    classes = frozenset(map(plain, str(node.get("class", "")).split()))
+    return Element(tag_of(node), plain(str(node.get("id", ""))), classes, "")
+
+
 def _imports(sheet: Sheet, folder: str, seen: FrozenSet[str]) -> Iterator[Sheet]:
     """A style sheet, after those that it imports."""
     for rule in tinycss2.parse_stylesheet(sheet.text, True, True):
@@ -184,7 +190,7 @@ def _declared(block: Sequence[Any], sheet: int, special: Tuple[int, ...], is_sur
             for name, changes in changes_of(one.lower_name, one.value, custom).items()]
 
 
-def _selectors(prelude: str, is_sure: bool) -> List[Any]:
+def known_selectors(prelude: str, is_sure: bool) -> List[Any]:
     """The selectors of a rule, if all are read here as by browsers."""
     if is_sure and _KNOWN.fullmatch(prelude):
         try:
@@ -199,10 +205,11 @@ class Cascade:
     """The fonts that elements of a page may have."""
 
     def __init__(self, data: bytes, folder: str, is_own: Callable[[str], bool]) -> None:
-        self.document, is_exact = document_of(data)
+        self.document, self.is_exact = document_of(data)
         sheets = list(sheets_in(self.document, folder, is_own))
         blocks = [(number, *block) for number, sheet in enumerate(sheets)
-                  for block in _blocks(tinycss2.parse_stylesheet(sheet.text, True, True), sheet.is_sure and is_exact)]
+                  for block in _blocks(tinycss2.parse_stylesheet(sheet.text, True, True),
+                                       sheet.is_sure and self.is_exact)]
         self.inline = {node: _declarations(tinycss2.parse_component_value_list(str(node.get("style"))))
                        for node in self.document.iter() if node.get("style")}
         self.custom = _custom([*(block for _, _, block, _ in blocks), *self.inline.values()])
@@ -213,7 +220,7 @@ class Cascade:
 
     def _add(self, number: int, prelude: str, block: Sequence[Any], is_sure: bool) -> None:
         """Adds a rule of a style sheet."""
-        selectors = _selectors(prelude, is_sure)
+        selectors = known_selectors(prelude, is_sure)
         for selector in selectors:
             declared = _declared(block, number, selector.specificity, True, self.custom)
             if declared:
@@ -234,8 +241,7 @@ class Cascade:
     def _of(self, one: Any, around: Fonts) -> Fonts:
         """The fonts of an element within one that has these."""
         node = one.etree_element
-        element = Element(tag_of(node), plain(str(node.get("id", ""))),
-                          frozenset(map(plain, str(node.get("class", "")).split())), "")
+        element = element_of(node)
         declared = [each for *_, some in self.matcher.match(one) for each in some]
         declared += [each for subject, some in self.others if subject.may_be(element) for each in some]
         declared += _declared(self.inline.get(node, ()), -1, _OWN, True, self.custom)

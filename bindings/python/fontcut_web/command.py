@@ -155,7 +155,8 @@ otherwise nothing is written.
 """
 
 _SITE = """\
-Makes the fonts of the pages in DIR as DIR/fontcut.toml says, and writes them to DIR/fonts: each font is prepared for
+Makes the fonts of the pages in DIR as DIR/fontcut.toml says, of which it prints an example for DIR if there is none,
+and writes them to DIR/fonts: each font is prepared for
 the pages in each language, cut for each page, joined for the pages of a section, and written as WOFF2, with a style
 sheet for each section, and site.json, which has the lines for the head of each page. It prints the bytes that each page
 loads, with --whole beside those of the whole fonts as WOFF2.
@@ -165,8 +166,8 @@ section. If the prepared font lacks them, it is prepared anew, and its files for
 made is kept in DIR/.fontcut. A run that is killed leaves the old files as they are, and the next one goes on.
 
   pages = ["**/*.html"]            # the pages, which is the default
-  closed = ["guestbook.html"]      # pages whose text is not known when they are published
-  exact = ["index.html"]           # pages whose text is, although they run scripts
+  closed = ["guestbook.html"]      # pages whose cuts draw other text in letters that these show
+  exact = ["index.html"]           # pages whose cuts draw the text that is there alone, although scripts run
   prepare_by = "site"              # fonts are prepared for all pages, and not for those in each language
 
   [sections]
@@ -336,7 +337,7 @@ def _add_text(commands: argparse._SubParsersAction[CommandParser]) -> None:
     _kinds(command, None, lean="write a lean cut", layout="write a layout cut (the default)",
            variable="write a variable cut (the default where pages use axes)", full="write a full cut")
     _as_is(command)
-    command.add_argument("--text", metavar="TEXT", default="", help="more characters to keep")
+    command.add_argument("--text", metavar="TEXT", help="more characters to keep")
     command.add_argument("--shaped", action="store_true", help="write an exact cut: of just the glyphs of the text")
     command.add_argument("--features", metavar="LIST", action="append",
                          help="keep these features too, and with --shaped shape with them, as smcp,onum or salt=2; may "
@@ -415,8 +416,8 @@ def _add_site(commands: argparse._SubParsersAction[CommandParser]) -> None:
     command.add_argument("folder", metavar="DIR", help="the folder of the site, with its settings and its pages")
     command.add_argument("--anew", action="store_true", help="make all fonts anew, without characters that no page has "
                                                              "any more")
-    command.add_argument("--check", action="store_true", help="replace nothing if Chromium draws a page otherwise with "
-                                                              "a font that is made anew")
+    command.add_argument("--check", action="store_true", help="replace nothing if Chromium draws a page otherwise by "
+                                                              "cuts; pages that have not changed are not drawn again")
     command.add_argument("--whole", action="store_true", help="tell the bytes of the whole fonts as WOFF2 too, which "
                                                               "takes minutes for a large font the first time")
     command.add_argument("--json", action="store_true", help="print site.json, and no table")

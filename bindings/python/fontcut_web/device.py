@@ -109,7 +109,8 @@ def run(given: argparse.Namespace) -> None:
     if not paths:
         raise UsageError("device takes CUT.. and OUT")
     check_name(out, is_packed=False)
-    check_read(paths, [out, *([given.map] if given.map else [])])
+    check_read(paths, [out], "another file as OUT")
+    check_read(paths, [given.map] if given.map else [], "another file for --map")
     made = _made(paths, given)
     if not given.force:
         check_unpacked(out, [made.data])

@@ -10,7 +10,7 @@ import re
 import secrets
 import shutil
 import tempfile
-from typing import Iterator, List, NamedTuple, Sequence, Set, Tuple, Union
+from typing import Any, Dict, Iterator, List, NamedTuple, Optional, Sequence, Set, Tuple, Union
 from urllib.request import pathname2url
 
 from fontcut_output import read
@@ -19,18 +19,39 @@ from .boxes import boxes
 from .browser import Browser, Failed
 from .common import MissingProgram, Refused
 from .inputs import file_in, sha256
-from .pages import decoded
+from .pages import Page, decoded
 from .processes import processors, side_by_side
 from .sheet import string
 
 _PROGRAMS = "chromium", "chromium-browser", "google-chrome"
-# The size of the window, in pixels; what lies below is not drawn.
-_WIDTH, _HEIGHT = 1000, 8000
+# How a browser begins, without what no picture needs and takes time then.
+_WORDS = ("--headless=new", "--disable-gpu", "--hide-scrollbars", "--force-device-scale-factor=1",
+          "--font-render-hinting=none", "--allow-file-access-from-files", "--no-first-run", "--disable-extensions",
+          "--disable-component-update", "--disable-background-networking", "--disable-sync", "--disable-default-apps")
+# The size of the window, in pixels, and how much of a page is drawn that is higher than it.
+_WIDTH, _HEIGHT, _MOST = 1000, 1000, 8000
 _SECONDS = 120
 # How many pages a browser draws at least if more of them are begun: to begin one takes as long as two pages.
 _LEAST = 3
 # How long scripts of a page run, by its own clock.
 _MILLISECONDS = 10000
+# Waits until the fonts are there that a page asks for when it is laid out, and lays all of it out anew by these: digits
+# upright in vertical lines keep the width that another font gave them.
+_FONTS = """(async () => {
+    const root = document.documentElement;
+    do {
+        root.getBoundingClientRect();
+        await document.fonts.ready;
+        root.getBoundingClientRect();
+    } while (document.fonts.status !== "loaded");
+    root.style.display = "none";
+    root.getBoundingClientRect();
+    root.style.removeProperty("display");
+    root.getBoundingClientRect();
+})()"""
+# Elements with pages of their own.
+_OTHERS = "iframe", "frame", "object", "embed"
+_EXPIRED = "Emulation.virtualTimeBudgetExpired"
 # All text is drawn in the font, whatever the style sheets say, and what it lacks as boxes: the browser would take it of
 # a font of the system, which may be the whole font. No font of the system has the names of these families.
 _STYLE = """<style>@font-face {{ font-family: font-{name}; src: url("{font}"); font-display: block; }}
@@ -90,11 +111,13 @@ def _page(path: str, before: str, after: str) -> str:
 
 
 class Drawn(NamedTuple):
-    """A page in a file, a whole font, and its cut, by which all of the page is to be drawn as by the font."""
+    """A page in a file, a whole font, and its cut, by which all of the page is to be drawn as by the font; and whether
+    nothing runs in the page that could keep something for the next picture."""
 
     page: str
     whole: bytes
     cut: bytes
+    is_still: bool = False
 
     def shown(self, folder: str, is_cut: bool, boxed: str) -> str:
         """The page with one of the fonts, which is put into a folder, and boxes of the font in a file."""
@@ -116,10 +139,12 @@ class Family(NamedTuple):
 
 
 class DrawnBy(NamedTuple):
-    """A page in a file whose elements have several fonts, by the cuts of which it is to be drawn as by the fonts."""
+    """A page in a file whose elements have several fonts, by the cuts of which it is to be drawn as by the fonts; and
+    whether nothing runs in it."""
 
     page: str
     fonts: Sequence[Family]
+    is_still: bool = False
 
     def shown(self, folder: str, is_cut: bool, boxed: str) -> str:
         """The page with the fonts or their cuts, which are put into a folder, and boxes of the font in a file."""
@@ -140,8 +165,9 @@ class DrawnBy(NamedTuple):
 Compared = Union[Drawn, DrawnBy]
 
 
+@functools.lru_cache(maxsize=None)
 def _put(folder: str, font: bytes) -> str:
-    """The address of a font that is put into a folder."""
+    """The address of a font that is put into a folder, once for all pages."""
     return _address(file_in(folder, f"font-{sha256(font)}", font))
 
 
@@ -150,11 +176,9 @@ def _browsing(program: str) -> Iterator[Tuple[Browser, str]]:
     """A browser, with a folder for the files that it shows."""
     folder = tempfile.mkdtemp()
     known = {**os.environ, "FONTCONFIG_FILE": file_in(folder, "fonts.conf", _UNHINTED.encode())}
+    words = [program, *_WORDS, f"--window-size={_WIDTH},{_HEIGHT}", f"--user-data-dir={folder}/profile"]
     try:
-        browser = Browser([
-            program, "--headless=new", "--disable-gpu", "--hide-scrollbars", "--force-device-scale-factor=1",
-            f"--window-size={_WIDTH},{_HEIGHT}", "--font-render-hinting=none", "--allow-file-access-from-files",
-            f"--user-data-dir={folder}/profile", *(["--no-sandbox"] if os.geteuid() == 0 else [])], known, _SECONDS)
+        browser = Browser([*words, *(["--no-sandbox"] if os.geteuid() == 0 else [])], known, _SECONDS)
         try:
             yield browser, folder
         finally:
@@ -164,35 +188,83 @@ def _browsing(program: str) -> Iterator[Tuple[Browser, str]]:
         shutil.rmtree(folder, ignore_errors=True)
 
 
-def _picture(browser: Browser, address: str) -> str:
-    """The picture of a page, which keeps nothing of other pages, when its scripts have had their time."""
-    context = browser.ask("Target.createBrowserContext")["browserContextId"]
-    target = browser.ask("Target.createTarget", url="about:blank", browserContextId=context, width=_WIDTH,
-                         height=_HEIGHT)["targetId"]
-    session = browser.ask("Target.attachToTarget", targetId=target, flatten=True)["sessionId"]
-    browser.ask("Page.enable", session)
-    browser.ask("Page.navigate", session, url=address)
-    browser.ask("Emulation.setVirtualTimePolicy", session, policy="pauseIfNetworkFetchesPending",
-                budget=_MILLISECONDS, maxVirtualTimeTaskStarvationCount=9999)
-    browser.wait_for("Emulation.virtualTimeBudgetExpired", session)
-    picture: str = browser.ask("Page.captureScreenshot", session, format="png", optimizeForSpeed=True)["data"]
-    browser.ask("Target.disposeBrowserContext", browserContextId=context)
-    return picture
+def is_still(page: Page) -> bool:
+    """Whether nothing runs in a page, and none in it, that could keep something for another one."""
+    return "scripts" not in page.writers and not any(element.tag in _OTHERS for _, element in page.elements)
+
+
+class _Tab:
+    """A tab of a browser, in which nothing is kept of pages that were in others."""
+
+    def __init__(self, browser: Browser) -> None:
+        self.browser = browser
+        self.context = browser.ask("Target.createBrowserContext")["browserContextId"]
+        target = browser.ask("Target.createTarget", url="about:blank", browserContextId=self.context, width=_WIDTH,
+                             height=_HEIGHT)["targetId"]
+        self.session = browser.ask("Target.attachToTarget", targetId=target, flatten=True)["sessionId"]
+        self._ask("Page.enable")
+
+    def _ask(self, method: str, **given: object) -> Dict[str, Any]:
+        return self.browser.ask(method, self.session, **given)
+
+    def picture(self, address: str, is_still: bool) -> str:
+        """The picture of a page, when its scripts have had their time, and the fonts of one without scripts are there.
+        The window is low, for a high one takes longer to be drawn, and what lies below it is drawn too."""
+        self._ask("Emulation.setVirtualTimePolicy", policy="advance")
+        self._ask("Page.navigate", url=address)
+        self.browser.forget(_EXPIRED, self.session)
+        self._ask("Emulation.setVirtualTimePolicy", policy="pauseIfNetworkFetchesPending", budget=_MILLISECONDS,
+                  maxVirtualTimeTaskStarvationCount=9999)
+        self.browser.wait_for(_EXPIRED, self.session)
+        if is_still:
+            self._ask("Emulation.setVirtualTimePolicy", policy="advance")
+            self._ask("Runtime.evaluate", expression=_FONTS, awaitPromise=True)
+        height = min(_MOST, self._ask("Page.getLayoutMetrics")["cssContentSize"]["height"])
+        clip = {"x": 0, "y": 0, "width": _WIDTH, "height": height, "scale": 1}
+        below = {"clip": clip, "captureBeyondViewport": True} if height > _HEIGHT else {}
+        picture: str = self._ask("Page.captureScreenshot", format="png", optimizeForSpeed=True, **below)["data"]
+        return picture
+
+    def close(self) -> None:
+        self.browser.ask("Target.disposeBrowserContext", browserContextId=self.context)
+
+
+class _Tabs:
+    """The tabs of a browser: one for all pages in which nothing runs, for a new one takes as long as a picture, and a
+    new one for each picture of another page."""
+
+    def __init__(self, browser: Browser) -> None:
+        self.browser = browser
+        self.shared: Optional[_Tab] = None
+
+    def picture(self, address: str, is_shared: bool) -> str:
+        tab = (is_shared and self.shared) or _Tab(self.browser)
+        picture = tab.picture(address, is_shared)
+        if is_shared:
+            self.shared = tab
+        else:
+            tab.close()
+        return picture
+
+
+def _is_same(one: Compared, tabs: _Tabs, folder: str, name: str, boxed: str) -> bool:
+    """Whether a page is drawn by a cut as by the whole font; the files for that have this name in a folder."""
+    pictures: Set[str] = set()
+    for is_cut in False, True:
+        shown = one.shown(folder, is_cut, boxed)
+        file = file_in(folder, f"{name}-{is_cut}.html", shown.encode("utf-8", "replace"))
+        pictures.add(tabs.picture(_address(file), one.is_still))
+    return len(pictures) == 1
 
 
 def _differences(program: str, every: Sequence[Compared]) -> List[str]:
     """What is said of each page that is not drawn by a cut as by the whole font; an empty text where it is."""
     found: List[str] = []
     with _browsing(program) as (browser, folder):
-        boxed = file_in(folder, "boxes", boxes())
+        boxed, tabs = file_in(folder, "boxes", boxes()), _Tabs(browser)
         for one in every:
-            pictures: Set[str] = set()
             try:
-                for is_cut in False, True:
-                    shown = one.shown(folder, is_cut, boxed)
-                    file = file_in(folder, f"{len(found)}-{is_cut}.html", shown.encode("utf-8", "replace"))
-                    pictures.add(_picture(browser, _address(file)))
-                is_same = len(pictures) == 1
+                is_same = _is_same(one, tabs, folder, str(len(found)), boxed)
                 found.append("" if is_same else "it is drawn otherwise by the cut than by the whole font")
             except Failed as failed:
                 return [*found, f"{os.path.basename(program)} draws no picture of it: {failed}"]

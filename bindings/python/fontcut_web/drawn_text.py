@@ -10,8 +10,9 @@ from typing import Any, Callable, Dict, FrozenSet, Iterable, Iterator, List, Nam
 from .cascade import Cascade, tag_of
 from .font_values import ANY, ANY_STYLE, ANY_WEIGHT, Families, Fonts
 from .pages import INLINE, SILENT, is_drawn, is_field
-from .shown import Added
-from .styles import cased
+from .selected import Selected
+from .shown import Additions
+from .styles import Added, cased
 
 # Elements that no text is drawn of.
 _HEAD = frozenset("head meta link base title style script".split())
@@ -173,7 +174,7 @@ class Asked(NamedTuple):
     sheets are at an address; the languages that it names; and whether readers write other text to it."""
 
     path: str
-    added: Added
+    added: Additions
     is_own: Callable[[str], bool]
     languages: Sequence[str]
     is_written: bool
@@ -192,11 +193,20 @@ def _running(lines: List[List[str]], blocks: Iterable[Iterable[Tuple[str, Frozen
             lines[face].append(" ".join(words))
 
 
+def _with_added(cascade: Cascade, fonts: Dict[Any, Fonts], added: Sequence[Added]) -> Iterator[Tuple[str, Set[Fonts]]]:
+    """Each text that browsers add, with the fonts of the elements that may have it."""
+    nodes = Selected(cascade.document, cascade.is_exact).elements_of({one.source.selectors for one in added})
+    for one in added:
+        its = nodes[one.source.selectors]
+        every = {each for node in its for each in node.iter()} if one.source.is_inherited else its
+        yield one.text, {fonts[node] for node in every if node in fonts and tag_of(node) not in _HEAD}
+
+
 def drawn_texts(data: bytes, asked: Asked, every: Sequence[Choice]) -> Tuple[Dict[int, List[str]], Set[str]]:
     """The lines that each of the fonts may draw of a page, if it may draw any, or a blank: that of the font of an
     element makes the height of its lines. And all letters of the page that were read."""
     cascade = Cascade(data, os.path.dirname(asked.path), asked.is_own)
-    fonts, chooser = dict(cascade.fonts()), Chooser(every, asked.added.cases, asked.languages)
+    fonts, chooser = dict(cascade.fonts()), Chooser(every, list(asked.added.cases), asked.languages)
     lines: List[List[str]] = [[] for _ in every]
     blocks = [list(_words(block)) for block in _pieces(cascade.document, fonts)]
     _running(lines, ([(word, frozenset().union(*(chooser.chosen(one, word) for one in its))) for word, its in block]
@@ -206,9 +216,9 @@ def drawn_texts(data: bytes, asked: Asked, every: Sequence[Choice]) -> Tuple[Dic
     fields = {fonts[each] for node in written for each in node.iter() if each in fonts}
     _running(lines, ([(word, chooser.chosen(one, word)) for word, _ in block] for block in blocks for one in fields))
     several = {its for node, its in fonts.items() if tag_of(node) not in _HEAD}
-    for text in asked.added.texts:
+    for text, its in _with_added(cascade, fonts, asked.added.texts):
         _running(lines, ([(word, chooser.chosen(one, word)) for word in filter(None, split_blanks(line))]
-                         for line in text.split("\n") for one in several))
+                         for line in text.split("\n") for one in its))
     used: Set[int] = set().union(*(chooser.all_of(one) if asked.is_written else chooser.chosen(one, " ")
                                    for one in several))
     found = {face: list(dict.fromkeys(some)) for face, some in enumerate(lines) if some or face in used}

@@ -17,7 +17,7 @@ from .common import KINDS, Refused, UsageError, codes_in
 from .inputs import accepted, as_file, file_in, mapped, read_pages, sha256
 from .preparing import Limit, Prepared, PrepareOptions
 from .replaced import check_unpacked, is_same
-from .sets import codes_of, range_words
+from .sets import codes_of, range_words, some_words
 from .shaping import Setting, place_of
 
 # By how many units an instance of fontTools may differ from what HarfBuzz makes of the variable font: each rounds other
@@ -200,8 +200,9 @@ def _say(given: argparse.Namespace, wanted: Wanted, how: PrepareOptions, one: Pr
     """Says on standard error what was dropped, and what the font lacks."""
     lines = list(preparing.dropped(one))
     if wanted.lacking:
-        lines.append(f"{given.font} lacks {len(wanted.lacking)} of "
-                     f"{len(wanted.lacking) + len(wanted.codes)} characters: {range_words(wanted.lacking)}")
+        count, some = len(wanted.lacking), some_words(wanted.lacking)
+        every = "" if some == range_words(wanted.lacking) else f"; {given.out}.json has all"
+        lines.append(f"{given.font} lacks {count} of {count + len(wanted.codes)} characters: {some}{every}")
     unknown = sorted(set(how.features or []) - set(one.before.features) - set(preparing.default_features()))
     if unknown:
         lines.append(f"{given.font} has no feature {', '.join(unknown)}")

@@ -5,6 +5,7 @@ A pool of `concurrent.futures` would copy the fonts of each task to its process.
 from __future__ import annotations
 
 import contextlib
+import functools
 import multiprocessing
 import os
 import signal
@@ -46,6 +47,18 @@ def _received(received: Connection) -> Any:
     if "error" in sent:
         raise sent["error"]
     return sent["answer"]
+
+
+def in_groups(tasks: Sequence[Callable[[], Answer]]) -> List[Answer]:
+    """What each of the tasks answers, which are many and short: a process has a group of them."""
+    count = min(processors(), len(tasks))
+    parts = [tasks[first::count] for first in range(count)]
+    found = side_by_side([functools.partial(_answers, part) for part in parts])
+    return [found[number % count][number // count] for number in range(len(tasks))]
+
+
+def _answers(tasks: Sequence[Callable[[], Answer]]) -> List[Answer]:
+    return [task() for task in tasks]
 
 
 def side_by_side(tasks: Sequence[Callable[[], Answer]]) -> List[Answer]:

@@ -64,11 +64,12 @@ def check_unpacked(out: str, fonts: Sequence[bytes]) -> None:
         raise UsageError(f"{out} is a font already, and no cut: name another file; --force replaces {out}")
 
 
-def check_read(paths: Sequence[str], written: Iterable[str]) -> None:
-    """Raises `UsageError` where a file that is to be written is one of those that are read."""
+def check_read(paths: Sequence[str], written: Iterable[str], instead: str = "another folder") -> None:
+    """Raises `UsageError` where a file that is to be written is one of those that are read. It says what to name
+    instead."""
     for out in filter(os.path.exists, written):
         if any(is_same(path, out) for path in paths):
-            raise UsageError(f"{out} is read, and would be replaced: name another folder")
+            raise UsageError(f"{out} is read, and would be replaced: name {instead}")
 
 
 def check_whole(written: Iterable[str]) -> None:

@@ -3,7 +3,7 @@
 from __future__ import annotations
 
 import re
-from typing import FrozenSet, Iterator, List, Match, NamedTuple
+from typing import FrozenSet, Iterator, List, Match, NamedTuple, Tuple
 
 from .elements import Element, plain
 
@@ -14,6 +14,8 @@ _PARENTHESES, _ATTRIBUTE = re.compile(r"\([^()]*\)"), re.compile(r"\[[^\]]*\]")
 _COMBINATORS = re.compile(r"[\s>+~|]+")
 # A part of a selector: a pseudo-class or an element, a class, a name, or a tag.
 _PART = re.compile(r"(::?|[.#]|)((?:[\w-]|[^\0-\x7f])+)")
+# What stands before rules that are about the elements of their own selectors.
+_CONDITION = re.compile(r"@(?:media|supports|layer|container|scope|document|starting-style)(?![\w-])", re.I)
 # What stands before the steps of an animation, which any element may have.
 _STEP = re.compile(r"from|to|[\d.]+%")
 
@@ -30,13 +32,22 @@ class Subject(NamedTuple):
         return (self.tag in ("", element.tag) and self.name in ("", element.name) and self.classes <= element.classes)
 
 
-_ANY = Subject("", "", frozenset())
+class Selectors(NamedTuple):
+    """What stands before the declarations of a rule, in one line; what its elements may be by its last parts; and
+    whether all that it asks of them stands there, as it does not for a rule in another one."""
+
+    prelude: str
+    subjects: Tuple[Subject, ...]
+    is_whole: bool = False
+
+
+ANY = Selectors("", (Subject("", "", frozenset()),))
 
 
 class Rule(NamedTuple):
-    """A rule: what its elements may be, and the text of each of its declarations."""
+    """A rule: its selectors, and the text of each of its declarations."""
 
-    subjects: List[Subject]
+    selectors: Selectors
     declarations: List[str]
 
 
@@ -63,7 +74,7 @@ def calm(sheet: str) -> str:
 def _subject(selector: str) -> Subject:
     """What the last element of a selector may be."""
     if _STEP.fullmatch(selector.strip()):
-        return _ANY
+        return ANY.subjects[0]
     parts = _PART.findall(_COMBINATORS.split(selector.strip())[-1])
     tag, name = ("".join(word for mark, word in parts if mark == wanted).lower() for wanted in ("", "#"))
     return Subject(tag, name, frozenset(word.lower() for mark, word in parts if mark == "."))
@@ -78,18 +89,23 @@ def subjects_of(prelude: str) -> List[Subject]:
     return list(map(_subject, _ATTRIBUTE.sub("", text).split(",")))
 
 
-def _within(prelude: str, around: List[Subject]) -> List[Subject]:
-    """What the elements of a block may be that has this before it. Conditions leave it to the block around."""
-    prelude = prelude.strip()
-    return around if prelude.startswith("@") else subjects_of(prelude)
+def _within(prelude: str, around: Selectors) -> Selectors:
+    """The selectors of a block that has this before it, in a block with others. Conditions leave it to the block
+    around."""
+    prelude = " ".join(prelude.split())
+    is_in_rule = around.prelude[:1] not in ("", "@")
+    if not prelude.startswith("@"):
+        is_whole = not around.prelude or bool(_CONDITION.match(around.prelude))
+        return Selectors(prelude, tuple(subjects_of(prelude)), is_whole)
+    return around if is_in_rule and _CONDITION.match(prelude) else Selectors(prelude, around.subjects)
 
 
 def rules_of(sheet: str) -> Iterator[Rule]:
     """The rules of the text of a style sheet, in the order of their ends. Those in other rules are rules, too."""
-    opened = [Rule([_ANY], [])]
+    opened = [Rule(ANY, [])]
     for text, end in re.findall(r"([^{};]*)([{};]|$)", calm(sheet)):
         if end == "{":
-            opened.append(Rule(_within(text, opened[-1].subjects), []))
+            opened.append(Rule(_within(text, opened[-1].selectors), []))
             continue
         opened[-1].declarations.append(text)
         if end == "}" and len(opened) > 1:

@@ -24,6 +24,8 @@ _OF_WEB = {"latin": ("latin", "latin-ext", "vietnamese"), "greek": ("greek", "gr
            "cyrillic": ("cyrillic", "cyrillic-ext")}
 _OF_LANGUAGES = "han", "hangul", "hiragana", "katakana", "bopomofo"
 _TELLING = 2000
+# How many ranges of characters a message has at most.
+_SHOWN = 20
 # The last slice of `auto`: what is of no script. The last slice of other lists, where it is asked for.
 _OTHERS, REST = "others", "rest"
 
@@ -268,12 +270,34 @@ def left_out(codes: Sequence[int], slices: Iterable[Slice]) -> List[int]:
             and properties.category(chr(code)) != "Cc"]
 
 
-def range_words(codes: Iterable[int]) -> str:
-    """Codes in ascending order as a `unicode-range` of CSS has them."""
+def _rows(codes: Iterable[int]) -> List[List[int]]:
+    """Codes in ascending order as the first and the last of each range."""
     rows: List[List[int]] = []
     for code in codes:
         if rows and code == rows[-1][1] + 1:
             rows[-1][1] = code
         else:
             rows.append([code, code])
+    return rows
+
+
+def _words_of(rows: Iterable[Sequence[int]]) -> str:
     return ", ".join(f"U+{first:X}" if first == last else f"U+{first:X}-{last:X}" for first, last in rows)
+
+
+def range_words(codes: Iterable[int]) -> str:
+    """Codes in ascending order as a `unicode-range` of CSS has them."""
+    return _words_of(_rows(codes))
+
+
+def some_of(names: Sequence[str], most: int = _SHOWN) -> str:
+    """Names for a message: the first of them, and how many others there are."""
+    more = len(names) - most
+    return ", ".join(names[:most]) + (f" and {more:,} more" if more > 0 else "")
+
+
+def some_words(codes: Iterable[int], most: int = _SHOWN) -> str:
+    """The same for a message: the first ranges, and how many characters there are in others."""
+    rows = _rows(codes)
+    more = sum(last - first + 1 for first, last in rows[most:])
+    return _words_of(rows[:most]) + (f" and {more:,} more" if more else "")

@@ -7,14 +7,21 @@ from typing import Dict, Iterator, List, NamedTuple, Sequence, Set
 import fontcut
 
 from .feature_sets import MOST, feature_sets
+from .matching import matching_of
 from .pages import Page, lines_of, shown
-from .styles import Features, Styles, cased, features_in, quotes_of, sheets_of, styles_of
+from .rules import Selectors, Subject
+from .styles import Added, Features, Source, Styles, cased, features_in, quotes_of, sheets_of, styles_of
 
 # A letter of Hebrew, which composes with nothing that is before it.
 _TURNED = "\u05d0"
+# Numbers of lists have figures of one width (HTML, Rendering, Lists).
+_NUMBERS: Features = (("tnum", 1),)
 # What can be done about style sheets that are not understood.
 BY_FEATURES = ": name its features by --features"
-# What is said of a page to which readers write.
+# What is said of a page whose scripts may write text, of a style sheet that is not there, and of a page to which
+# readers write.
+SCRIPTS = "it runs scripts, and text that they write may vanish"
+LOST = "is no file beside it"
 FIELDS = "it has fields, and text that readers write in this font may vanish"
 
 
@@ -34,40 +41,65 @@ class Shown(NamedTuple):
     unknown: List[str]
 
 
-class Added(NamedTuple):
-    """What browsers add to the text of a page: texts, whatever elements these are of, and the cases that they change
-    text to."""
+class Read(NamedTuple):
+    """What the style sheets of a page say of its elements, and the addresses of those that are no files beside it."""
 
-    texts: List[str]
-    cases: List[str]
-
-
-def _added(page: Page, styles: Styles) -> Added:
-    texts = [*page.made, *styles.texts, *(quotes_of(page.languages) for _ in range(page.has_quotes)),
-             *(value for name in styles.attributes for value in page.attributes.get(name, ()))]
-    return Added(texts, styles.cases)
+    styles: Styles
+    lost: List[str]
 
 
-def added_to(page: Page, path: str) -> Added:
-    """What browsers add to the text of a page in a file."""
-    sheets, _ = sheets_of(page, path)
-    return _added(page, styles_of(sheets, page.attributes.get("style", ()), page.languages))
+def read_styles(page: Page, path: str) -> Read:
+    """Reads the style sheets of a page in a file."""
+    sheets, lost = sheets_of(page, path)
+    return Read(styles_of(sheets, page.attributes.get("style", ()), page.languages, matching_of(page, path)), lost)
 
 
-def shown_by(page: Page, path: str, more: Sequence[Features], text: str = "", is_all: bool = False) -> Shown:
+class Additions(NamedTuple):
+    """What browsers add to the text of a page: texts, each with what adds it, and the cases that they change text to,
+    with what asks for these."""
+
+    texts: List[Added]
+    cases: Dict[str, Source]
+
+
+def _elements(*tags: str) -> Source:
+    """Elements to which browsers add text by themselves."""
+    return Source(Selectors(", ".join(tags), tuple(Subject(tag, "", frozenset()) for tag in tags)))
+
+
+def _added(page: Page, styles: Styles) -> List[Added]:
+    made = [Added(text, _elements("ol", "li", "input")) for text in page.made]
+    quotes = [Added(quotes_of(page.languages), _elements("q"))] if page.has_quotes else []
+    values = [Added(value, one.source) for one in styles.attributes for value in page.attributes.get(one.text, ())]
+    return [*made, *styles.texts, *quotes, *values]
+
+
+def added_to(page: Page, read: Read) -> Additions:
+    """What browsers add to the text of a page with these style sheets."""
+    return Additions(_added(page, read.styles), read.styles.cases)
+
+
+def shown_by(page: Page, path: str, read: Read, more: Sequence[Features] = (), text: str = "", is_all: bool = False
+             ) -> Shown:
     """What a page in a file shows, with its style sheets, with more sets of features, and with more text. The text of
     one that has all has what browsers add."""
-    sheets, lost = sheets_of(page, path)
-    styles = styles_of(sheets, page.attributes.get("style", ()), page.languages)
-    added = [] if is_all else _added(page, styles).texts
+    styles, lost = read
+    added = [] if is_all else [one.text for one in _added(page, styles)]
     blocks = [*page.blocks, *lines_of("\n".join([*added, text]))]
     blocks += [other for case in styles.cases for block in blocks for other in cased(block, case, page.languages)]
+    more = [*more, *([_NUMBERS] if _has_numbers(page, styles) else [])]
     sets = _with_more(feature_sets(page.elements, styles.rules, "scripts" in page.writers), more)
     # What stands between parts is no character of them, and composes with none.
     whole = "\0".join([page.text, text, *added, *blocks])
     return Shown(path, whole, list(dict.fromkeys(blocks)), ["", *page.languages], _directions(page, styles, blocks),
                  sets[:MOST], _turned_on(page, styles, more), "fields" in page.writers,
                  list(_unknown(page, path, styles, lost, len(sets) > MOST)))
+
+
+def _has_numbers(page: Page, styles: Styles) -> bool:
+    """Whether a page has lists with numbers, as far as its elements and style sheets tell."""
+    is_list = any(element.tag == "ol" for _, element in page.elements)
+    return is_list or any(one.source.name.startswith("list-style") for one in styles.texts)
 
 
 def _with_more(sets: Sequence[Features], more: Sequence[Features]) -> List[Features]:
@@ -109,9 +141,9 @@ def _directions(page: Page, styles: Styles, blocks: Sequence[str]) -> Set[str]:
 
 def _unknown(page: Page, path: str, styles: Styles, lost: Sequence[str], is_more: bool) -> Iterator[str]:
     """What cannot be known of a page."""
-    said = {"scripts": "it runs scripts, and text that they write may vanish", "fields": FIELDS}
+    said = {"scripts": SCRIPTS, "fields": FIELDS}
     yield from (f"{path}: {said[writer]}" for writer in page.writers)
-    yield from (f"{path}: the style sheet {address} is no file beside it{BY_FEATURES}" for address in lost)
+    yield from (f"{path}: the style sheet {address} {LOST}{BY_FEATURES}" for address in lost)
     yield from (f"{path}: {declared!r} is not understood{BY_FEATURES}" for declared in styles.unread)
     if is_more:
         yield f"{path}: its text may have features in more than {MOST} ways, and is shaped in as many"

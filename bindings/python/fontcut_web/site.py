@@ -4,22 +4,22 @@ from __future__ import annotations
 import argparse
 import os
 import sys
-from typing import Dict, Iterator, List, Mapping, Sequence, Set, Tuple
+from typing import List, Mapping, Sequence, Set, Tuple
 
 import fontcut
 from fontcut_output import Progress, print_line
 
-from . import sequences
-from .common import Refused, need
+from . import site_example
+from .common import Refused, UsageError, need
 from .inputs import accepted, mapped
-from .sets import codes_of, range_words
-from .shown import BY_FEATURES, FIELDS
+from .sets import codes_of
 from .site_fonts import Base, Run, Wished, bases, programs, sections, wished
-from .site_pages import Modes, SitePage, languages_of, modes_of, pages_of
-from .site_report import REPORT, Made, is_ours, lacking, lines, report, sheets
-from .site_settings import Settings, named, settings_of
+from .site_pages import SitePage, languages_of, modes_of, pages_of
+from .site_report import REPORT, Made, is_ours, lines, report, sheets
+from .site_settings import FILE, Settings, named, settings_of
 from .site_state import NOTHING, FontState, Place, State, bytes_at, put_text
 from .site_text import SiteFont, views
+from .site_told import told as told_of
 
 
 def _names(settings: Settings) -> List[str]:
@@ -45,12 +45,12 @@ def _bases(run: Run, settings: Settings, pages: Sequence[SitePage], before: Stat
     seen = views(settings, fonts, pages)
     run.said.extend(seen.said)
     every: List[Wished] = []
-    for font, its in zip(fonts, seen.pages):
+    for number, (font, its) in enumerate(zip(fonts, seen.pages), 1):
         wishes = wished(font.settings, font.name, font.whole, its, languages, before)
         if not wishes and not any(page.name in font.pages and mapped(font.whole, page.letters) for page in pages):
             raise Refused(f"{font.settings.file}: it maps no character of its pages")
         if not wishes:
-            run.said.append(f"{font.settings.file}: no text of its pages is drawn in it")
+            run.said.append(f"font {number}, {font.settings.file}: no page draws text in it: nothing is made of it")
         every += wishes
     return [(base, [page for page in one.pages if mapped(base.font, page.letters)])
             for one, base in zip(every, bases(run, every))]
@@ -76,29 +76,6 @@ def _check_ours(place: Place, before: State, names: Sequence[str]) -> None:
                           "name another folder as out")
 
 
-def _told(modes: Modes, found: Sequence[Tuple[Base, List[SitePage]]], pages: Sequence[SitePage]) -> Iterator[str]:
-    """What is not known of pages, and which characters no font of theirs has."""
-    fonts: Dict[str, List[fontcut.Font]] = {page.name: [] for page in pages}
-    shows = [(base, {page.name for page in some}) for base, some in found]
-    for base, some in found:
-        for page in some:
-            fonts[page.name].append(base.whole)
-    shown = [page for page in pages if fonts[page.name]]
-    for page in shown:
-        if page.name not in modes.exact | modes.closed:
-            yield from (f"{line.replace(BY_FEATURES, '')}: its cuts are closed, unless it is named as exact"
-                        for line in page.shown.unknown if not line.endswith(FIELDS))
-        its = [base for base, some in shows if page.name in some]
-        if page.shown.has_fields and not page.written.letters and not any(base.settings.languages for base in its):
-            yield (f"{page.shown.path}: readers write to it, and letters that it does not show are of no font of it: "
-                   "name languages of the page or of a font")
-    yield from (f"{name}: no font of it has {range_words(codes)}" for name, codes in lacking(shown, fonts))
-    for page in shown:
-        its_fonts = [(os.path.basename(base.settings.file), base.whole.data) for base, some in shows
-                     if page.name in some]
-        yield from (f"{page.name}: {line}" for line in sequences.told(page.shown.text, its_fonts))
-
-
 def _write(place: Place, texts: Mapping[str, str], told: str, state: State) -> int:
     """Replaces style sheets and the report, and then the state. How many style sheets have changed."""
     changed = [put_text(place.output, name, text) for name, text in texts.items()]
@@ -112,22 +89,35 @@ def _run(run: Run, settings: Settings, before: State) -> Tuple[str, List[str]]:
     pages = pages_of(settings)
     modes = modes_of(settings, pages)
     found = _bases(run, settings, pages, before)
-    states = sections(run, found, modes)
+    states, checked = sections(run, found, modes)
     every = [one for (base, _), state in zip(found, states) for one in _made(run, base, state)]
     texts = sheets(every, settings.display)
     _check_ours(run.place, before, [*texts, REPORT])
     fonts = {base.key: state for (base, _), state in zip(found, states)}
     told = report(settings, pages, every)
     changed = _write(run.place, texts, told, State(programs(), fonts, [*texts, REPORT]))
-    run.said.extend(_told(modes, found, pages))
+    run.said.extend(told_of(settings, modes, found, pages))
     count = sum(one.is_new for one in every)
-    return told, [f"made anew: {count} of {len(every)} fonts, {changed} of {len(texts)} style sheets"]
+    return told, [*checked, f"made anew: {count} of {len(every)} fonts, {changed} of {len(texts)} style sheets"]
+
+
+def _settings(folder: str) -> Settings:
+    """The settings of the site in a folder. Where it has none, or an empty file, as a shell makes it for what is
+    printed, some are printed that it could have."""
+    path = os.path.join(folder, FILE)
+    is_empty = os.path.isfile(path) and not os.path.getsize(path)
+    if os.path.isdir(folder) and (is_empty or not os.path.exists(path)):
+        for line in site_example.example(folder):
+            print_line(line)
+    if is_empty:
+        raise UsageError(f"{path} is empty")
+    return settings_of(folder)
 
 
 def run(given: argparse.Namespace) -> None:
     """Makes the fonts of a site."""
     need("fontTools", "brotli", "tomli")
-    settings = settings_of(given.folder)
+    settings = _settings(given.folder)
     place, said = Place(settings.output, settings.work), []  # type: Place, List[str]
     with place.locked(), Progress("fontcut-web") as progress:
         before = NOTHING if given.anew else place.state()
@@ -135,7 +125,7 @@ def run(given: argparse.Namespace) -> None:
             said.append("all fonts are made anew: a program has another version")
             before = NOTHING
         told, last = _run(Run(place, said, given.check, given.whole, progress), settings, before)
-    for line in said:
+    for line in [*said, *(last[:-1] if given.json else [])]:
         print(f"fontcut-web: {line}", file=sys.stderr)
     for line in [told.rstrip()] if given.json else [*lines(told), *last]:
         print_line(line)

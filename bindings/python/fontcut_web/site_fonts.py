@@ -16,7 +16,7 @@ from .inputs import accepted, mapped, refusing
 from .prepare import made_of, wanted_of
 from .preparing import PrepareOptions
 from .processes import side_by_side
-from .sets import codes_of, range_words
+from .sets import codes_of, range_words, some_words
 from .shaped import Known, Said
 from .sheet import declarations
 from .site_pages import CLOSED, EXACT, Modes, SitePage
@@ -82,9 +82,7 @@ def _why(one: FontSettings, old: FontState, key: str, pages: Sequence[SitePage],
     if lacking:
         new = set(map(chr, lacking))
         page = next((page.name for page in pages if new & (page.letters | page.written.every)), FILE)
-        words = range_words(lacking).split(", ")
-        more = " and more" if len(words) > _NAMED else ""
-        return f"{page} has {', '.join(words[:_NAMED])}{more}, which it had not"
+        return f"{page} has {some_words(lacking, _NAMED)}, which it had not"
     if old.features is None or features is not None and set(features) <= set(old.features):
         return ""
     return f"{', '.join(sorted(set(features or []) - set(old.features))) or 'all'} is a feature that it had not"
@@ -290,41 +288,76 @@ def _made(run: Run, one: Section) -> Cut:
     return Cut(data, small, known)
 
 
+def _checked(one: Section) -> Dict[str, str]:
+    """How each page of a section was read that was drawn by its cut as by the whole font, and is so since: what is
+    joined into a cut changes nothing of other pages."""
+    if one.old is None or one.before is None:
+        return {}
+    return {name: key for name, key in one.old.checked.items() if one.keys.get(name) == key}
+
+
 def _written(run: Run, one: Section, cut: Cut) -> SectionState:
     """Writes the files of a section, and returns its state."""
+    checked = one.keys if run.is_drawn else _checked(one)
     if one.old and cut.woff2 is None:
-        return one.old._replace(pages=one.keys)
+        return one.old._replace(pages=one.keys, checked=checked)
     file_name = f"{one.base.name}-{one.name}"
     return SectionState(_cuts_of(one.base), one.keys, run.place.put(run.place.work, file_name, ".ttf", cut.data),
-                        run.place.put(run.place.output, file_name, ".woff2", cut.woff2 or b""))
+                        run.place.put(run.place.output, file_name, ".woff2", cut.woff2 or b""), checked)
 
 
-def _compared(every: Sequence[Section], cuts: Sequence[Cut]) -> List[drawn.Compared]:
-    """The pages that have changed, with their fonts and new cuts: all of a page by each font, or if fonts have parts of
-    it, all of these at once."""
-    made = [(one, cut, page) for one, cut in zip(every, cuts) if cut.woff2 is not None for page in one.changed()]
-    found: List[drawn.Compared] = [drawn.Drawn(page.path, one.base.whole.data, cut.woff2 or b"")
-                                   for one, cut, page in made if not page.is_part]
-    for path in dict.fromkeys(page.path for _, _, page in made if page.is_part):
+def _woff2(run: Run, one: Section, cut: Cut) -> bytes:
+    """The WOFF2 of a section, which was made by this run, or by one before it."""
+    if cut.woff2 is not None or one.old is None:
+        return cut.woff2 or b""
+    return run.place.kept(run.place.output, one.old.woff2) or b""
+
+
+def _compared(run: Run, every: Sequence[Section], cuts: Sequence[Cut]) -> List[drawn.Compared]:
+    """The pages that were not drawn yet as they are now, with their fonts and cuts: all of a page by each font, or if
+    fonts have parts of it, all of these at once."""
+    asked = [(one, cut, page) for one, cut in zip(every, cuts) for page in one.pages if page.name not in _checked(one)]
+    found: List[drawn.Compared] = []
+    for one, cut, page in (row for row in asked if not row[2].is_part):
+        found.append(drawn.Drawn(page.path, one.base.whole.data, _woff2(run, one, cut), drawn.is_still(page.page)))
+    for path, is_still in {page.path: drawn.is_still(page.page) for _, _, page in asked if page.is_part}.items():
         fonts = [drawn.Family(one.base.face.family, declarations(one.base.face), one.base.whole.data,
-                              cut.woff2 or cut.data, range_words(codes_of(cut.data)))
+                              _woff2(run, one, cut), range_words(codes_of(cut.data)))
                  for one, cut in zip(every, cuts) if any(page.path == path for page in one.pages)]
-        found.append(drawn.DrawnBy(path, fonts))
+        found.append(drawn.DrawnBy(path, fonts, is_still))
     return found
 
 
-def sections(run: Run, found: Sequence[Tuple[Base, Sequence[SitePage]]], modes: Modes) -> List[FontState]:
+def _check(run: Run, every: Sequence[Section], cuts: Sequence[Cut]) -> str:
+    """Draws the pages that were not drawn yet, and says which these are."""
+    run.progress.say("drawing pages")
+    compared = _compared(run, every, cuts)
+    count, most = len({one.page for one in compared}), len({page.path for one in every for page in one.pages})
+    if not count:
+        return (f"checked: no page, for none has changed since it was; --anew --check makes all anew and checks all "
+                f"({most})")
+    drawn.check(compared)
+    others = "; the others were before, and have not changed" if count < most else ""
+    return f"checked: {count} of {most} pages, which are drawn as by the whole fonts{others}"
+
+
+class Sections(NamedTuple):
+    """The states of fonts with the cuts of their sections, and what was checked, if that was asked for."""
+
+    states: List[FontState]
+    checked: List[str]
+
+
+def sections(run: Run, found: Sequence[Tuple[Base, Sequence[SitePage]]], modes: Modes) -> Sections:
     """The states of fonts with the cuts of their sections, which are made side by side."""
     every = [_section(run, base, name, [page for page in pages if page.section == name], modes)
              for base, pages in found for name in dict.fromkeys(page.section for page in pages)]
     cuts = side_by_side([functools.partial(_made, run, one) for one in every])
-    if run.is_drawn:
-        run.progress.say("drawing pages")
-        drawn.check(_compared(every, cuts))
+    checked = [_check(run, every, cuts)] if run.is_drawn else []
     states: Dict[str, FontState] = {base.key: base.state._replace(sections={}) for base, _ in found}
     for one, cut in zip(every, cuts):
         state = states[one.base.key]
         for manner, parts in cut.known.items():
             state.shaped.setdefault(manner, {}).update(parts)
         state.sections[one.name] = _written(run, one, cut)
-    return [states[base.key] for base, _ in found]
+    return Sections([states[base.key] for base, _ in found], checked)

@@ -1,13 +1,15 @@
 """The pages of a site: what each shows, its section, and whether its cuts are exact or closed."""
 from __future__ import annotations
 
+import functools
 import os
 from typing import Dict, List, NamedTuple, Sequence, Set
 
 from .common import UsageError
 from .inputs import read_pages
 from .pages import Page
-from .shown import Shown, letters_of, shown_by
+from .processes import in_groups
+from .shown import Read, Shown, letters_of, read_styles, shown_by
 from .site_settings import SITE, FontSettings, Settings, named, page_names, sections_of
 from .site_state import digest_of
 from .site_written import Written, written_to
@@ -17,14 +19,15 @@ EXACT, CLOSED = "exact", "closed"
 
 
 class SitePage(NamedTuple):
-    """A page: its name, which is its path from the folder of the site; its section; its file; what is read of it; what
-    it shows; the characters of that, with those that a shaper takes for them; what is written to it; a digest of all
-    that its cuts depend on; and whether what it shows is the part of a font."""
+    """A page: its name, which is its path from the folder of the site; its section; its file; what is read of it, and
+    of its style sheets; what it shows; the characters of that, with those that a shaper takes for them; what is written
+    to it; a digest of all that its cuts depend on; and whether what it shows is the part of a font."""
 
     name: str
     section: str
     path: str
     page: Page
+    read: Read
     shown: Shown
     letters: Set[str]
     written: Written
@@ -73,8 +76,9 @@ def _page(settings: Settings, name: str, section: str, written: Written) -> Site
     path = os.path.join(settings.folder, name)
     page, = read_pages([path])
     page = page._replace(links=[link for link in page.links if not is_own(settings, name, link)])
-    shown = shown_by(page, path, [], written.text)
-    return SitePage(name, section, path, page, shown, letters_of(shown), written, _digest(shown, written))
+    read = read_styles(page, path)
+    shown = shown_by(page, path, read, text=written.text)
+    return SitePage(name, section, path, page, read, shown, letters_of(shown), written, _digest(shown, written))
 
 
 def pages_of(settings: Settings) -> List[SitePage]:
@@ -82,7 +86,7 @@ def pages_of(settings: Settings) -> List[SitePage]:
     names = page_names(settings)
     sections = sections_of(settings, names)
     written = written_to(settings, names)
-    return [_page(settings, name, sections[name], written[name]) for name in names]
+    return in_groups([functools.partial(_page, settings, name, sections[name], written[name]) for name in names])
 
 
 def modes_of(settings: Settings, pages: Sequence[SitePage]) -> Modes:

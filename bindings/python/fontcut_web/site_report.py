@@ -7,11 +7,8 @@ import os
 import unicodedata
 from typing import Dict, Iterator, List, Mapping, NamedTuple, Sequence, Tuple
 
-import fontcut
-
 from .common import Refused
 from .faces import Face
-from .sequences import without_selectors
 from .sets import Slice
 from .sheet import Placed, Styled, address_of, mark, preload, style_sheet
 from .site_pages import SitePage
@@ -93,16 +90,6 @@ def _row(settings: Settings, page: SitePage, made: Sequence[Made]) -> Dict[str, 
 def _whole(made: Sequence[Made]) -> Dict[str, int]:
     """The bytes of whole fonts as WOFF2, if all are known."""
     return {"whole": sum(one.whole for one in made)} if all(one.whole for one in made) else {}
-
-
-def lacking(pages: Sequence[SitePage], fonts: Mapping[str, Sequence[fontcut.Font]]) -> Iterator[Tuple[str, List[int]]]:
-    """The pages that have characters which none of their fonts has, with these."""
-    for page in pages:
-        codes = sorted(without_selectors({ord(letter) for letter in page.shown.text if letter.isprintable()}))
-        for font in fonts[page.name]:
-            codes = fontcut.missing(font, codes)
-        if codes:
-            yield page.name, codes
 
 
 def report(settings: Settings, pages: Sequence[SitePage], made: Sequence[Made]) -> str:

@@ -23,6 +23,10 @@ LANGUAGE, SITE = "language", "site"
 FAMILY, PAGE = "family", "page"
 _NAMES, _KERNS = ("keep", "least"), ("auto", "keep", "drop")
 _KINDS = "", "lean", *SHAPED
+# A weight of style sheets, or the least and the most one of a variable font.
+_WEIGHT, _LEAST, _MOST = re.compile(r"[0-9]+(?:\.[0-9]+)?"), 1, 1000
+# The line that begins a font.
+_FONT = re.compile(r"\s*\[\[\s*font\s*\]\]")
 # A key of TOML that needs no quotation marks, which can be the name of a file too.
 _BARE = re.compile(r"[A-Za-z0-9_-]+")
 
@@ -117,6 +121,15 @@ def _values(where: str, table: object, defaults: Mapping[str, object], tables: S
     return dict(table)
 
 
+def _check_weight(where: str, weight: str) -> None:
+    """Raises `UsageError` where a weight is none of style sheets."""
+    words = weight.split()
+    if weight in ("", "normal", "bold") or len(words) in (1, 2) and all(
+            _WEIGHT.fullmatch(word) and _LEAST <= float(word) <= _MOST for word in words):
+        return
+    raise UsageError(f"{where}: weight is normal, bold, or one or two numbers from {_LEAST} to {_MOST}")
+
+
 def _check_choice(where: str, key: str, value: str, choices: Sequence[str]) -> None:
     if value not in choices:
         raise UsageError(f"{where}: {key} is one of {', '.join(filter(None, choices))}")
@@ -135,7 +148,27 @@ def _font(path: str, number: int, table: object) -> FontSettings:
     for key, choices in (("style", _STYLES), ("names", _NAMES), ("kern", _KERNS), ("kind", _KINDS)):
         _check_choice(where, key, getattr(found, key), choices)
     _check_unicodes(where, found.unicodes)
+    _check_weight(where, found.weight)
     return found
+
+
+def _places(path: str, count: int) -> List[str]:
+    """What each of the fonts of a file is called, with its line if it has one of its own."""
+    lines = [number for number, line in enumerate(read(path).decode().splitlines(), 1) if _FONT.match(line)]
+    return [f"font {number}" + (f" in line {lines[number - 1]}" if len(lines) == count else "")
+            for number in range(1, count + 1)]
+
+
+def _check_once(path: str, fonts: Sequence[FontSettings]) -> None:
+    """Raises `UsageError` where a font stands twice with the same settings, so that it would be made twice."""
+    seen: List[FontSettings] = []
+    for font in fonts:
+        one = font._replace(file=os.path.realpath(font.file))
+        if one in seen:
+            places = _places(path, len(fonts))
+            raise UsageError(f"{path}: {places[len(seen)]} is {places[seen.index(one)]} again, with the same file and "
+                             "the same settings: write it once")
+        seen.append(one)
 
 
 def _written(path: str, number: int, table: object) -> PageSettings:
@@ -193,6 +226,7 @@ def settings_of(folder: str) -> Settings:
     found = Settings(folder, [_font(path, number, font) for number, font in enumerate(fonts, 1)],
                      sections=_sections(path, sections),
                      written=[_written(path, number, page) for number, page in enumerate(pages, 1)], **values)
+    _check_once(path, found.fonts)
     _check_choice(path, "display", found.display, DISPLAYS)
     _check_choice(path, "prepare_by", found.prepare_by, (LANGUAGE, SITE))
     _check_choice(path, "text_by", found.text_by, (FAMILY, PAGE))

@@ -48,12 +48,14 @@ class File(NamedTuple):
 
 
 class SectionState(NamedTuple):
-    """The cut of a section: what it is a cut of, how each of its pages was read, and its files."""
+    """The cut of a section: what it is a cut of, how each of its pages was read, its files, and how each of its pages
+    was read that was drawn by it as by the whole font."""
 
     base: str
     pages: Dict[str, str]
     cut: File
     woff2: File
+    checked: Dict[str, str]
 
 
 class FontState(NamedTuple):
@@ -93,7 +95,8 @@ NOTHING = State({}, {}, [])
 
 
 def _section(told: Mapping[str, Any]) -> SectionState:
-    return SectionState(told["base"], dict(told["pages"]), File(*told["cut"]), File(*told["woff2"]))
+    return SectionState(told["base"], dict(told["pages"]), File(*told["cut"]), File(*told["woff2"]),
+                        dict(told.get("checked", {})))
 
 
 def _font(told: Mapping[str, Any]) -> FontState:

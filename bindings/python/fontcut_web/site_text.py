@@ -2,8 +2,9 @@
 from __future__ import annotations
 
 import functools
-from importlib.util import find_spec
-from typing import Dict, Iterator, List, NamedTuple, Optional, Sequence, Set, Tuple
+import os
+import re
+from typing import Any, Collection, Dict, Iterator, List, Mapping, NamedTuple, Optional, Sequence, Set, Tuple
 
 import fontcut
 from fontcut_output import read
@@ -12,16 +13,19 @@ from . import preparing
 from .common import part
 from .faces import face_of, limits_in, varying
 from .malformed import MALFORMED
-from .pages import lines_of
-from .processes import side_by_side
-from .sets import codes_of
+from .matching import lacking
+from .pages import decoded, lines_of
+from .processes import in_groups
+from .sets import codes_of, some_of
 from .shown import added_to, shown_by
 from .site_pages import SitePage, is_own
 from .site_settings import FontSettings, Settings
 from .site_written import written_by
-from .styles import sheets_of
+from .styles import file_of, sheets_of
 
-PACKAGES = "html5lib", "tinycss2", "cssselect2"
+# The address of a script of a page, and what loads others.
+_SOURCE = re.compile(r"<script\b[^>]*?\ssrc\s*=\s*[\"']?([^\"'\s>]+)", re.I)
+_LOADING = re.compile(r"<script\b[^>]*?\stype\s*=\s*[\"']?module|\bimport\s*\(|\bimportScripts\s*\(", re.I)
 # Weights of CSS.
 _LEAST, _MOST = 1.0, 1000.0
 
@@ -36,10 +40,12 @@ class SiteFont(NamedTuple):
 
 
 class Part(NamedTuple):
-    """What fonts may draw of a page: lines of each of them that some element may have; or why that is not known."""
+    """What fonts may draw of a page: the numbers of those that are named for it, and lines of each that some element
+    may have; or why these are not known."""
 
+    named: Collection[int]
     lines: Dict[int, List[str]]
-    unknown: str
+    unknown: str = ""
 
 
 def _weights(words: str) -> Tuple[float, float]:
@@ -73,34 +79,55 @@ def _unknown(page: SitePage) -> str:
     """Why it is not known which elements of a page have which font, or an empty text."""
     if "scripts" in page.page.writers:
         return "it runs scripts"
-    lost = sheets_of(page.page, page.path)[1]
+    lost = page.read.lost
     return f"the style sheet {lost[0]} is no file beside it" if lost else ""
 
 
-def _drawn(settings: Settings, page: SitePage, choices: Sequence[object], is_written: bool) -> Part:
+def _scripts(page: SitePage) -> Optional[List[str]]:
+    """The text of a page, whose scripts may name families, and those of its scripts; nothing where one is not there, or
+    may load others."""
+    texts = [decoded(read(page.path))]
+    for address in _SOURCE.findall(texts[0]):
+        path = file_of(address, os.path.dirname(page.path))
+        if not os.path.isfile(path):
+            return None
+        texts.append(read(path).decode("utf-8", "replace"))
+    return None if any(map(_LOADING.search, texts)) else texts
+
+
+def _named(page: SitePage, choices: Sequence[Any]) -> Collection[int]:
+    """The fonts of which a page has the family somewhere, in its text, its style sheets or its scripts; all, where
+    these are not there."""
+    texts = None if page.read.lost else _scripts(page)
+    if texts is None:
+        return range(len(choices))
+    sheets = [sheet.text for sheet in sheets_of(page.page, page.path)[0]]
+    words = " ".join("\n".join([*texts, *sheets]).lower().split())
+    return [at for at, choice in enumerate(choices) if not choice.family.isascii() or choice.family in words]
+
+
+def _drawn(settings: Settings, page: SitePage, choices: Sequence[Any], is_written: bool) -> Part:
     """What fonts may draw of a page, to which readers may write other text in some of them."""
-    why = _unknown(page)
+    why, every = _unknown(page), range(len(choices))
     if why:
-        return Part({}, why)
+        return Part(_named(page, choices), {}, why)
     drawn_text = part("drawn_text")
-    asked = drawn_text.Asked(page.path, added_to(page.page, page.path), functools.partial(is_own, settings, page.name),
+    asked = drawn_text.Asked(page.path, added_to(page.page, page.read), functools.partial(is_own, settings, page.name),
                              page.page.languages, is_written or bool(page.written.every))
     try:
         lines, letters = drawn_text.drawn_texts(read(page.path), asked, choices)
     except (*MALFORMED, RecursionError) as error:
-        return Part({}, f"it or a style sheet is not understood: {error or type(error).__name__}")
-    if not lines:
-        return Part({}, "its style sheets name no family of them")
+        return Part(every, {}, f"it or a style sheet is not understood: {error or type(error).__name__}")
     if not {letter for letter in page.page.text if not letter.isspace() and letter.isprintable()} <= letters:
-        return Part({}, "its text is not read as browsers read it")
-    return Part(lines, "")
+        return Part(every, {}, "its text is not read as browsers read it")
+    return Part(list(lines), lines)
 
 
 def _view(page: SitePage, lines: Sequence[str]) -> SitePage:
     """A page as a font shows it that may draw these lines. It has the blank too, for the height of lines."""
     text = "\n".join([*lines, " "])
-    shown = shown_by(page.page._replace(text=text, blocks=lines_of(text)), page.path, [], page.written.text,
-                     is_all=True)
+    shown = shown_by(page.page._replace(text=text, blocks=lines_of(text)), page.path, page.read,
+                     text=page.written.text, is_all=True)
     return page.seen(shown)
 
 
@@ -111,32 +138,46 @@ class Views(NamedTuple):
     said: List[str]
 
 
-def views(settings: Settings, fonts: Sequence[SiteFont], pages: Sequence[SitePage]) -> Views:
-    """The pages of each font as it shows them: with all their text, if they have no other font, or it is not known."""
-    found: List[List[SitePage]] = [[page for page in pages if page.name in font.pages] for font in fonts]
-    several = [page for page in pages if sum(page.name in font.pages for font in fonts) > 1]
-    if not settings.is_by_family or not several:
-        return Views(found, [])
-    lacking = [name for name in PACKAGES if find_spec(name) is None]
-    if lacking:
-        return Views(found, [f"each font has all text of its pages, for this Python has no {' and '.join(lacking)}"])
+def _parts(settings: Settings, fonts: Sequence[SiteFont], pages: Sequence[SitePage]) -> List[Part]:
+    """What the fonts of each page may draw of it, by their numbers among all."""
     choices = [_choice(font) for font in fonts]
-    numbers = {page.name: [at for at, font in enumerate(fonts) if page.name in font.pages] for page in several}
     written = [bool(written_by([font.settings]).every) for font in fonts]
-    parts = side_by_side([functools.partial(_drawn, settings, page, [choices[at] for at in numbers[page.name]],
-                                            any(written[at] for at in numbers[page.name])) for page in several])
-    by_name = {page.name: one for page, one in zip(several, parts)}
+    numbers = [[at for at, font in enumerate(fonts) if page.name in font.pages] for page in pages]
+    found = in_groups([functools.partial(_drawn, settings, page, [choices[at] for at in its],
+                                         any(written[at] for at in its)) for page, its in zip(pages, numbers)])
+    return [Part([its[at] for at in one.named], {its[at]: lines for at, lines in one.lines.items()}, one.unknown)
+            for one, its in zip(found, numbers)]
+
+
+def views(settings: Settings, fonts: Sequence[SiteFont], pages: Sequence[SitePage]) -> Views:
+    """The pages of each font as it shows them: with all their text, if it is not known which of it is drawn in which
+    font, or if no page names a family of a font."""
+    found: List[List[SitePage]] = [[page for page in pages if page.name in font.pages] for font in fonts]
+    counts = {page.name: sum(page.name in font.pages for font in fonts) for page in pages}
+    absent = lacking() if settings.is_by_family else ()
+    if absent and max(counts.values()) > 1:
+        return Views(found, [f"each font has all text of its pages, for this Python has no {' and '.join(absent)}"])
+    if absent or not settings.is_by_family:
+        return Views(found, [])
+    shown = [page for page in pages if counts[page.name]]
+    parts = dict(zip((page.name for page in shown), _parts(settings, fonts, shown)))
+    if not any(one.named for one in parts.values()):
+        return Views(found, ["no page names a family of these fonts in a style sheet: each font has all text of its "
+                             "pages"])
     for at, its in enumerate(found):
-        found[at] = [view for page in its for view in _seen(page, by_name.get(page.name), numbers, at)]
-    return Views(found, [f"{page.name}: {one.unknown}: each of its fonts has all its text"
-                         for page, one in zip(several, parts) if one.unknown])
+        found[at] = [_seen(page, parts[page.name], at) for page in its if at in parts[page.name].named]
+    return Views(found, list(_said(parts)))
 
 
-def _seen(page: SitePage, drawn: Optional[Part], numbers: Dict[str, List[int]], font: int) -> Iterator[SitePage]:
-    """A page as a font of this number shows it, if it does."""
-    if drawn is None or drawn.unknown:
-        yield page
-        return
-    lines = drawn.lines.get(numbers[page.name].index(font))
-    if lines is not None:
-        yield _view(page, lines)
+def _said(parts: Mapping[str, Part]) -> Iterator[str]:
+    """What is said of pages, by their names."""
+    yield from (f"{name}: {one.unknown}: each of its fonts has all its text" for name, one in parts.items()
+                if one.unknown and len(one.named) > 1)
+    others = [name for name, one in parts.items() if not one.named]
+    if others:
+        yield f"no font is made for pages whose style sheets name no family of one: {some_of(others)}"
+
+
+def _seen(page: SitePage, drawn: Part, font: int) -> SitePage:
+    """A page as a font of this number shows it."""
+    return page if drawn.unknown else _view(page, drawn.lines[font])

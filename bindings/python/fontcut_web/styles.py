@@ -4,13 +4,14 @@ from __future__ import annotations
 import os
 import re
 import unicodedata
-from typing import Dict, Hashable, Iterable, Iterator, List, NamedTuple, Sequence, Set, Tuple, TypeVar
+from typing import (Callable, Collection, Dict, Hashable, Iterable, Iterator, List, NamedTuple, Optional, Sequence, Set,
+                    Tuple, TypeVar)
 from urllib.parse import unquote, urlsplit
 
 from . import counters
 from .common import UsageError
 from .pages import Page
-from .rules import COMMENT, STRING, Subject, calm, rules_of, unescaped
+from .rules import ANY, COMMENT, STRING, Selectors, Subject, calm, rules_of, unescaped
 
 Item = TypeVar("Item", bound=Hashable)
 # Some features with the value that each is set to.
@@ -30,6 +31,11 @@ _SETTING = re.compile(r"[\"']([\x20-\x7e]{4})[\"']\s*(on|off|\d+)?", re.I)
 _NO_WORDS = re.compile(rf"{STRING}|url\([^)]*\)", re.I)
 _ATTRIBUTE = re.compile(r"attr\(\s*([^\s,)]+)", re.I)
 _COUNTER = re.compile(r"counters?\(([^)]*)\)", re.I)
+# Properties that elements within an element have too, if these say nothing else.
+_INHERITED = frozenset("""list-style list-style-type quotes text-emphasis text-emphasis-style hyphens
+    hyphenate-character""".split())
+# What stands before a counter style, with its name, and the words that may name it.
+_COUNTER_STYLE, _WORDS = re.compile(r"@counter-style ([\w-]+)", re.I), re.compile(r"(?:[\w-]|[^\0-\x7f])+")
 # Marks that capitals of Greek go without.
 _ACCENTS = re.compile("[\u0300\u0301\u0313\u0314\u0342\u0345]")
 
@@ -60,24 +66,55 @@ _CORNERS = "\u300c\u300d\u300e\u300f"
 _WITH_CORNERS = "ja", "zh", "yue"
 
 
+class StyleSheet(NamedTuple):
+    """The text of a style sheet, and the path of the file in which it stands."""
+
+    text: str
+    path: str
+
+
 class FeatureRule(NamedTuple):
     """The features that a rule sets, by property, with what its elements may be."""
 
-    subjects: List[Subject]
+    subjects: Tuple[Subject, ...]
     features: Dict[str, Features]
 
 
+class Source(NamedTuple):
+    """What adds text to elements: the selectors of a rule, the path of its style sheet, and a property, of which
+    elements within these may have what it says; or the elements alone, where browsers add it by themselves."""
+
+    selectors: Selectors
+    path: str = ""
+    name: str = ""
+
+    @property
+    def is_inherited(self) -> bool:
+        return self.name in _INHERITED
+
+
+class Added(NamedTuple):
+    """Text that is added to elements, and what adds it."""
+
+    text: str
+    source: Source
+
+
 class Styles(NamedTuple):
-    """What style sheets say: the rules that set features, the cases that text is changed to, text that is added, the
-    attributes that it is taken from, the directions of text, as a page has them and `ttb` for vertical lines, and what
-    could not be read."""
+    """What style sheets say: the rules that set features, the cases that text is changed to, each with what asks for
+    it first, text that is added, and attributes whose values are, the directions of text, as a page has them and `ttb`
+    for vertical lines, and what could not be read."""
 
     rules: List[FeatureRule]
-    cases: List[str]
-    texts: List[str]
-    attributes: List[str]
+    cases: Dict[str, Source]
+    texts: List[Added]
+    attributes: List[Added]
     directions: Set[str]
     unread: List[str]
+
+
+# Which of the selectors of rules may be about an element.
+Matching = Callable[[Sequence[Selectors]], Collection[Selectors]]
 
 
 def _variant(name: str, words: Sequence[str]) -> Iterator[Tuple[str, Features]]:
@@ -209,30 +246,49 @@ def _once(items: Iterable[Item]) -> List[Item]:
     return list(dict.fromkeys(items))
 
 
-def _read(declarations: str, languages: Sequence[str], found: Styles) -> Dict[str, Features]:
-    """Reads declarations, and returns the features that they set."""
-    features: Dict[str, Features] = {}
-    for name, value in declarations_of(declarations):
-        features.update(_features(name, value))
-        found.cases.extend(sorted(_cases(name, value)))
-        found.texts.extend(_texts(name, value, languages))
-        found.attributes.extend(_attributes(name, value))
-        found.directions.update(_directions(name, value))
-        found.unread.extend(_unread(name, value))
-    return features
+class _Block(NamedTuple):
+    """The declarations of a rule that are known here, the selectors of the rule, and the path of its style sheet, which
+    those of a single element do not have."""
+
+    selectors: Selectors
+    path: Optional[str]
+    declarations: List[Tuple[str, str]]
 
 
-def styles_of(sheets: Sequence[str], inline: Sequence[str], languages: Sequence[str]) -> Styles:
-    """What the texts of style sheets say, and declarations of single elements, for a page in these languages."""
-    found = Styles([], [], [], [], set(), [])
-    for sheet in sheets:
-        for rule in rules_of(sheet):
-            features = _read("; ".join(rule.declarations), languages, found)
-            found.rules.extend([FeatureRule(rule.subjects, features)] if features else [])
-    for declarations in inline:
-        _read(calm(declarations), languages, found)
-    return found._replace(cases=_once(found.cases), texts=_once(filter(None, found.texts)),
-                          attributes=_once(found.attributes), unread=_once(found.unread))
+def _blocks(sheets: Sequence[StyleSheet], inline: Sequence[str], matching: Optional[Matching]) -> List[_Block]:
+    """The rules of style sheets that may be about an element, and the declarations of single elements. A counter style
+    that none of these names counts nothing, if no script does."""
+    rules = [_Block(rule.selectors, sheet.path, list(declarations_of("; ".join(rule.declarations))))
+             for sheet in sheets for rule in rules_of(sheet.text)]
+    every = [_Block(ANY, None, list(declarations_of(calm(declarations)))) for declarations in inline]
+    if matching is None:
+        return [*rules, *every]
+    known = matching(_once(block.selectors for block in rules if block.declarations))
+    every = [*(block for block in rules if block.selectors in known), *every]
+    words = {word for block in every for _, value in block.declarations for word in _WORDS.findall(value)}
+    styles = [(block, _COUNTER_STYLE.match(block.selectors.prelude)) for block in every]
+    return [block for block, style in styles if not style or style[1] in words]
+
+
+def styles_of(sheets: Sequence[StyleSheet], inline: Sequence[str], languages: Sequence[str],
+              matching: Optional[Matching] = None) -> Styles:
+    """What style sheets say, and declarations of single elements, for a page in these languages: all rules, or those
+    alone whose selectors may be about an element of it."""
+    found = Styles([], {}, [], [], set(), [])
+    for block in _blocks(sheets, inline, matching):
+        features: Dict[str, Features] = {}
+        for name, value in block.declarations:
+            source = Source(block.selectors, block.path or "", name)
+            features.update(_features(name, value))
+            found.texts.extend(Added(text, source) for text in _texts(name, value, languages) if text)
+            found.attributes.extend(Added(one, source) for one in _attributes(name, value))
+            found.directions.update(_directions(name, value))
+            found.unread.extend(_unread(name, value))
+            for case in sorted(_cases(name, value)):
+                found.cases.setdefault(case, source)
+        if features and block.path is not None:
+            found.rules.append(FeatureRule(block.selectors.subjects, features))
+    return found._replace(texts=_once(found.texts), attributes=_once(found.attributes), unread=_once(found.unread))
 
 
 def parts_of(address: str) -> Tuple[str, str]:
@@ -251,8 +307,8 @@ def file_of(address: str, folder: str) -> str:
     return "" if host or not path or path.startswith("/") else os.path.join(folder, path)
 
 
-def _linked(address: str, folder: str, seen: Set[str], lost: List[str]) -> Iterator[str]:
-    """The text of a linked style sheet, and of those that it imports."""
+def _linked(address: str, folder: str, seen: Set[str], lost: List[str]) -> Iterator[StyleSheet]:
+    """A linked style sheet, and those that it imports."""
     path = file_of(address, folder)
     if path in seen:
         return
@@ -263,21 +319,21 @@ def _linked(address: str, folder: str, seen: Set[str], lost: List[str]) -> Itera
         lost.append(address)
         return
     seen.add(path)
-    yield text
+    yield StyleSheet(text, path)
     yield from _imported(text, os.path.dirname(path), seen, lost)
 
 
-def _imported(text: str, folder: str, seen: Set[str], lost: List[str]) -> Iterator[str]:
-    """The texts of the style sheets that one imports."""
+def _imported(text: str, folder: str, seen: Set[str], lost: List[str]) -> Iterator[StyleSheet]:
+    """The style sheets that one imports, which has this text."""
     for address in _IMPORT.findall(COMMENT.sub(" ", text)):
         yield from _linked(address.strip("\"'"), folder, seen, lost)
 
 
-def sheets_of(page: Page, path: str) -> Tuple[List[str], List[str]]:
-    """The texts of the style sheets of a page in a file, and the addresses of those that are no files beside it."""
+def sheets_of(page: Page, path: str) -> Tuple[List[StyleSheet], List[str]]:
+    """The style sheets of a page in a file, and the addresses of those that are no files beside it."""
     folder, lost = os.path.dirname(path), []  # type: str, List[str]
     seen: Set[str] = set()
-    sheets = list(page.styles)
+    sheets = [StyleSheet(text, path) for text in page.styles]
     for text in page.styles:
         sheets += _imported(text, folder, seen, lost)
     for address in page.links:

@@ -11,13 +11,15 @@ from typing import Dict, List, NamedTuple, Sequence, Set, Tuple
 import fontcut
 from fontcut_output import Progress, print_line, write
 
-from . import pages, sequences, styles
+from . import losses, pages, sequences, styles
 from .common import SHAPED, Missing, Refused, UsageError, need, part
 from .inputs import accepted, as_file, mapped, read_pages, refusing
 from .replaced import check_font, check_name, check_written, is_same
-from .sets import Slice, range_words
-from .shown import Shown, letters_of, shown_by
+from .sets import Slice, range_words, some_words
+from .shown import Shown, letters_of, read_styles, shown_by
 
+# What is said of an option without a character, as where a variable of a shell is empty.
+NO_TEXT = "--text is empty: it names no character"
 # In so many sets of features texts are tried at most.
 _TRIED = 16
 
@@ -100,7 +102,7 @@ def _lacking(given: argparse.Namespace, source: str, font: fontcut.Font, shown: 
     codes = sorted(sequences.without_selectors(map(ord, set().union(*map(_letters, shown)))))
     lacking = fontcut.missing(font, codes)
     if lacking:
-        said = f"{source} lacks {len(lacking)} of {len(codes)} characters: {range_words(lacking)}"
+        said = f"{source} lacks {len(lacking)} of {len(codes)} characters: {some_words(lacking)}"
         if given.strict:
             raise Refused(said)
         if not given.json and not given.quiet:
@@ -109,13 +111,13 @@ def _lacking(given: argparse.Namespace, source: str, font: fontcut.Font, shown: 
 
 
 def _dropped(given: argparse.Namespace, source: str, font: fontcut.Font, cut: Cut, shown: Sequence[Shown]) -> List[str]:
-    """What is said of what the cut drops, where fontTools is there to know it. Axes that no page uses are not missed.
-    """
+    """What is said of what the cut drops: of variation sequences, where fontTools is there to know them."""
+    lines = [NO_TEXT] if given.text == "" else []
+    lines += losses.lines(source, font, cut.codes, given.kind, given.named is not None)
     with contextlib.suppress(Missing):
-        lines: List[str] = part("notices").dropped(source, font.data, cut.codes, given.kind) if given.named else []
-        return lines + [f"{page.path}: {line}" for page in shown
-                        for line in sequences.told(page.text, [(source, font.data)])]
-    return []
+        lines += [f"{page.path}: {line}" for page in shown
+                  for line in sequences.told(page.text, [(source, font.data)])]
+    return lines
 
 
 def _sheet_beside(out: str) -> str:
@@ -208,14 +210,14 @@ def run(given: argparse.Namespace) -> None:
     given.named = given.kind
     given.kind = given.kind or part("axes").kind_for(font.data, zip(read, paths))
     more = styles.features_of(given.features or [])
-    shown = [shown_by(page, path, more, given.text) for page, path in zip(read, paths)]
+    shown = [shown_by(page, path, read_styles(page, path), more, given.text or "") for page, path in zip(read, paths)]
     lacking = _lacking(given, source, font, shown)
     cut = _made(given, font, source, shown)
     with refusing(source):
         data = part("woff").packed(cut.data) if out.lower().endswith(".woff2") else cut.data
     if given.check:
         drawn = part("drawn")
-        drawn.check([drawn.Drawn(path, font.data, data) for path in paths])
+        drawn.check([drawn.Drawn(path, font.data, data, drawn.is_still(page)) for path, page in zip(paths, read)])
     write(out, data)
     sheet = _write_sheet(given, font, source, cut.codes) if given.css else {}
     _report(given, len(data), cut, lacking, _dropped(given, source, font, cut, shown), sheet)

@@ -46,9 +46,9 @@ IsWord text first last =
     ((text ≡ codes "all") × (first ≡ 0) × (last ≡ LAST_CODE)) ⊎ IsCodeWord text first last
 
 -- why a text is refused: it is no word, or one of a bad range
-abbrev pub IsRefused : List ℕ → WordError → Type 0
-IsRefused text BadWord = (first last : ℕ) → IsWord text first last → ⊥
-IsRefused text BadRange = (first : ℕ) × (last : ℕ) × IsWord text first last × IsBadRange first last
+abbrev pub IsRefusedWord : List ℕ → WordError → Type 0
+IsRefusedWord text BadWord = (first last : ℕ) → IsWord text first last → ⊥
+IsRefusedWord text BadRange = (first : ℕ) × (last : ℕ) × IsWord text first last × IsBadRange first last
 
 -- a text is a word for one range at most
 abbrev pub OneRangeOfWord : Type 0

@@ -34,13 +34,13 @@ pub struct CodeRange {
 impl FromStr for CodeRange {
     ghost use Rattle.std.specs.Prelude.{MatchResult};
     ghost use Rattle.codes.specs.Wanted.{IsBadRange};
-    ghost use Rattle.codes.specs.Word.{IsRefused, IsWord};
+    ghost use Rattle.codes.specs.Word.{IsRefusedWord, IsWord};
 
     type Err = WordError;
 
     ghost from_str_gives = { λ word result. MatchResult result
         (λ range. IsWord word range.first range.last × (IsBadRange range.first range.last → ⊥))
-        (IsRefused word) };
+        (IsRefusedWord word) };
 
     fn from_str(word: &str) -> Result<CodeRange, WordError> {
         let (first, last) = read_word(word)?;

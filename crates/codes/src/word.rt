@@ -2,7 +2,7 @@
 ghost use Rattle.std.specs.Prelude.{◌≡◌, ℕ, MatchOption, MatchResult};
 ghost use Rattle.codes.specs.Text.{word_error_number};
 ghost use Rattle.codes.specs.Wanted.{IsBadRange};
-ghost use Rattle.codes.specs.Word.{IsRefused, IsWord, SpellsCode, WritesCodes};
+ghost use Rattle.codes.specs.Word.{IsRefusedWord, IsWord, SpellsCode, WritesCodes};
 
 use crate::code_points::LAST_CODE;
 use sfnt_bytes::numbers;
@@ -81,7 +81,7 @@ fn read_codes(text: &str) -> Option<(u32, u32)>
 pub fn read_word(word: &str) -> Result<(u32, u32), WordError>
     ensures { MatchResult result
         (λ range. IsWord word.now range.0 range.1 × (IsBadRange range.0 range.1 → ⊥))
-        (IsRefused word.now) }
+        (IsRefusedWord word.now) }
 {
     if word == "all" {
         return Ok((0, LAST_CODE));

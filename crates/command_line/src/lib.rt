@@ -188,16 +188,16 @@ pub struct Join<'a> {
     pub is_forced: bool,
 }
 
-/// Why a command line asks for nothing that can be done.
+/// What the words of a command line come to.
 #[derive(Drop)]
-pub enum LineError {
-    /// Out of memory.
-    NoMemory,
-    /// It asks for help or the version, which is this text.
+pub enum Parsed<'a> {
+    /// They ask for this.
+    Line(Line<'a>),
+    /// They ask for help or the version, which is this text.
     Help(String),
-    /// It is a usage error, as this text says.
-    Words(String),
-    /// Standard input is named more than once.
+    /// They are a usage error, as this text says.
+    Wrong(String),
+    /// They name standard input more than once.
     InputTwice,
 }
 
@@ -275,18 +275,15 @@ fn said_of_fault(alloc: Global, text: String) -> Result<String, AllocError> {
 }
 
 // Returns what an error of `clap` comes to, by which it also answers a call for help or the version.
-fn explained(alloc: Global, fault: &Error) -> LineError {
+fn explained<'a>(alloc: Global, fault: &Error) -> Result<Parsed<'a>, AllocError> {
     if fault.kind() == ErrorKind::OutOfMemory {
-        return LineError::NoMemory;
+        return Err(AllocError);
     }
-    match fault.to_string(alloc) {
-        Ok(text) if fault.use_stderr() => match said_of_fault(alloc, text) {
-            Ok(text) => LineError::Words(text),
-            Err(_) => LineError::NoMemory,
-        },
-        Ok(text) => LineError::Help(text),
-        Err(_) => LineError::NoMemory,
+    let text = fault.to_string(alloc).map_err(|_| AllocError)?;
+    if fault.use_stderr() {
+        return Ok(Parsed::Wrong(said_of_fault(alloc, text)?));
     }
+    Ok(Parsed::Help(text))
 }
 
 // Returns the values of an argument, in the order of the line.
@@ -563,22 +560,20 @@ fn unserved(matches: &ArgMatches<'_>) -> Option<&'static str> {
     Some("--layout-features")
 }
 
-// Returns what a line asks for, if it is no usage error by itself.
-fn parse_line<'a>(alloc: Global, words: &'a [String]) -> Result<Line<'a>, LineError> {
-    let matches = matches_of(alloc, words).map_err(|fault| explained(alloc, &fault))?;
+// Returns what a line asks for, however often it names standard input.
+fn parse_line<'a>(alloc: Global, words: &'a [String]) -> Result<Parsed<'a>, AllocError> {
+    let matches = match matches_of(alloc, words) {
+        Ok(matches) => matches,
+        Err(fault) => return explained(alloc, &fault),
+    };
     if let Some(option) = unserved(&matches) {
         let answer = served(option).unwrap_or("");
-        let said = said_of_peer(alloc, option, answer).map_err(|_| LineError::NoMemory)?;
-        return Err(LineError::Words(said));
+        return Ok(Parsed::Wrong(said_of_peer(alloc, option, answer)?));
     }
-    match line_of(alloc, &matches) {
-        Ok(Some(line)) => Ok(line),
+    match line_of(alloc, &matches)? {
+        Some(line) => Ok(Parsed::Line(line)),
         // Each word that is required is there, so this is a line of `join` with one word.
-        Ok(None) => match no_output(alloc) {
-            Ok(fault) => Err(explained(alloc, &fault)),
-            Err(_) => Err(LineError::NoMemory),
-        },
-        Err(_) => Err(LineError::NoMemory),
+        None => explained(alloc, &no_output(alloc)?),
     }
 }
 
@@ -608,15 +603,19 @@ pub fn is_quiet(words: &[String]) -> bool {
     words.iter().any(|word| word.as_str() == QUIET)
 }
 
-/// Reads the arguments of a line, the program's own name not among them.
+/// Reads the arguments of a line, the program's own name not among them. Help and usage errors have the text of `clap`,
+/// or what serves in the place of an option of another subsetter.
 ///
 /// # Errors
-/// `Help` and `Words` with the text of `clap`, or with what serves in the place of an option of another subsetter;
-/// `InputTwice` where standard input is named more than once among the inputs; `NoMemory` if out of memory.
-pub fn parse<'a>(alloc: Global, words: &'a [String]) -> Result<Line<'a>, LineError> {
-    let line = parse_line(alloc, words)?;
-    if reads_input_twice(&line.task) {
-        return Err(LineError::InputTwice);
+/// `AllocError` if out of memory.
+pub fn parse<'a>(alloc: Global, words: &'a [String]) -> Result<Parsed<'a>, AllocError> {
+    let parsed = parse_line(alloc, words)?;
+    let is_twice = match &parsed {
+        Parsed::Line(line) => reads_input_twice(&line.task),
+        _ => false,
+    };
+    if is_twice {
+        return Ok(Parsed::InputTwice);
     }
-    Ok(line)
+    Ok(parsed)
 }

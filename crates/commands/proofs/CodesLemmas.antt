@@ -16,7 +16,7 @@ use Rattle.codes.specs.Wanted.{AreSeparate, codes_between, member}
 use Rattle.codes.specs.Word.{IsWord, SpellsCode, code_word, is_hexadecimal}
 use Rattle.codes.specs.declared.code_range.CodeRange.{CodeRange}
 use Rattle.codes.specs.declared.runs.Run.{Run}
-use Rattle.commands.specs.Codes.{CodesLaws, IsReadBack, code_ranges, codes_of, ranges_of, ranges_on}
+use Rattle.commands.specs.Codes.{CodesLaws, IsReadBack, code_ranges, range_of_run, ranges_of, ranges_on}
 
 -- a range from one code to another
 abbrev pub range_to : ℕ → ℕ → CodeRange
@@ -26,13 +26,15 @@ range_to first last = record { first = first; last = last }
 on_yes : (range : CodeRange) (run : Run) (runs : List Run) → run.first ≡ range.last + 1
     → ranges_on range (run ∷ runs) ≡ ranges_on (range_to range.first run.last) runs
 on_yes range run runs e =
-    ap (λ (t : Bool). cond t (ranges_on (range_to range.first run.last) runs) (range ∷ ranges_on (codes_of run) runs))
+    ap (λ (t : Bool). cond t (ranges_on (range_to range.first run.last) runs)
+    (range ∷ ranges_on (range_of_run run) runs))
     (eq-eqb run.first (range.last + 1) e)
 
 on_no : (range : CodeRange) (run : Run) (runs : List Run) → run.first ≢ range.last + 1
-    → ranges_on range (run ∷ runs) ≡ range ∷ ranges_on (codes_of run) runs
+    → ranges_on range (run ∷ runs) ≡ range ∷ ranges_on (range_of_run run) runs
 on_no range run runs e =
-    ap (λ (t : Bool). cond t (ranges_on (range_to range.first run.last) runs) (range ∷ ranges_on (codes_of run) runs))
+    ap (λ (t : Bool). cond t (ranges_on (range_to range.first run.last) runs)
+    (range ∷ ranges_on (range_of_run run) runs))
     (ne_eqb run.first (range.last + 1) e)
 
 -- the walk from run to run: what is left of the ranges from a code on
@@ -86,7 +88,7 @@ on-separate m low range [] a b h = (a, b, tt)
 on-separate m low range (run ∷ runs) a b h =
     elim (cases_lt (range.last + 1) run.first) [
       | inl x ↦ subst (AreSeparate low) (sym (on_no range run runs (λ e. omega (arith, e, x))))
-          (a, b, on-separate m (range.last + 2) (codes_of run) runs (omega (arith, x)) h.0.piece.order h.1)
+          (a, b, on-separate m (range.last + 2) (range_of_run run) runs (omega (arith, x)) h.0.piece.order h.1)
       | inr x ↦ subst (AreSeparate low) (sym (on_yes range run runs (omega (arith, x, h.0.piece.from_on))))
           (on-separate m low (range_to range.first run.last) runs a (omega (
             arith,
@@ -146,15 +148,16 @@ on-exact m range (run ∷ runs) c o all h x =
     elim (cases_lt (range.last + 1) run.first) [
       | inl z ↦ ap (λ (ranges : List CodeRange). member ranges c) (on_no range run runs (λ e. omega (arith, e, z)))
           ∙ elim (cases_lt range.last c) [
-            | inl y ↦ member_above range (ranges_on (codes_of run) runs) c y
+            | inl y ↦ member_above range (ranges_on (range_of_run run) runs) c y
                 ∙ elim (cases_lt c run.first) [
-                  | inl w ↦ member_below run.first (ranges_on (codes_of run) runs) c
-                      (on-separate m run.first (codes_of run) runs (omega arith) h.0.piece.order h.1) w
+                  | inl w ↦ member_below run.first (ranges_on (range_of_run run) runs) c
+                      (on-separate m run.first (range_of_run run) runs (omega arith) h.0.piece.order h.1) w
                       ∙ sym (mapped_no m c (h.0.piece.least c (omega (arith, y)) w))
-                  | inr w ↦ on-exact m (codes_of run) runs c h.0.piece.order (run-mapped m (range.last + 1) run h.0) h.1
+                  | inr w ↦ on-exact m (range_of_run run) runs c h.0.piece.order
+                      (run-mapped m (range.last + 1) run h.0) h.1
                       w
                 ]
-            | inr y ↦ member_first range (ranges_on (codes_of run) runs) c x y ∙ sym (all c x y)
+            | inr y ↦ member_first range (ranges_on (range_of_run run) runs) c x y ∙ sym (all c x y)
           ]
       | inr z ↦
           let touches : run.first ≡ range.last + 1 = omega (arith, z, h.0.piece.from_on) in
@@ -239,8 +242,8 @@ on-read m range [] o w h = All-cons IsReadBack range [] (word-reads range o w) (
 on-read m range (run ∷ runs) o w h =
     elim (cases_lt (range.last + 1) run.first) [
       | inl x ↦ subst (All IsReadBack) (sym (on_no range run runs (λ e. omega (arith, e, x))))
-          (All-cons IsReadBack range (ranges_on (codes_of run) runs) (word-reads range o w)
-          (on-read m (codes_of run) runs h.0.piece.order h.0.piece.within h.1))
+          (All-cons IsReadBack range (ranges_on (range_of_run run) runs) (word-reads range o w)
+          (on-read m (range_of_run run) runs h.0.piece.order h.0.piece.within h.1))
       | inr x ↦ subst (All IsReadBack) (sym (on_yes range run runs (omega (arith, x, h.0.piece.from_on))))
           (on-read m (range_to range.first run.last) runs (omega (arith, o, h.0.piece.from_on, h.0.piece.order))
           h.0.piece.within h.1)
@@ -251,14 +254,15 @@ of-runs : (m : ℕ → ℕ) (runs : List Run) → AreRuns m 0 runs → AreSepara
     × ((c : ℕ) → member (ranges_of runs) c ≡ is_mapped m c) × All IsReadBack (ranges_of runs)
 of-runs m [] h = (tt, λ c. sym (mapped_no m c (h c (omega arith))), λ k d lt. absurd (omega (arith, lt)))
 of-runs m (run ∷ runs) h = (
-  on-separate m 0 (codes_of run) runs (omega arith) h.0.piece.order h.1,
+  on-separate m 0 (range_of_run run) runs (omega arith) h.0.piece.order h.1,
   (λ c. elim (cases_lt c run.first) [
-    | inl x ↦ member_below run.first (ranges_on (codes_of run) runs) c (on-separate m run.first (codes_of run) runs
+    | inl x ↦ member_below run.first (ranges_on (range_of_run run) runs) c
+        (on-separate m run.first (range_of_run run) runs
         (omega arith) h.0.piece.order h.1) x
         ∙ sym (mapped_no m c (h.0.piece.least c (omega arith) x))
-    | inr x ↦ on-exact m (codes_of run) runs c h.0.piece.order (run-mapped m 0 run h.0) h.1 x
+    | inr x ↦ on-exact m (range_of_run run) runs c h.0.piece.order (run-mapped m 0 run h.0) h.1 x
   ]),
-  on-read m (codes_of run) runs h.0.piece.order h.0.piece.within h.1,
+  on-read m (range_of_run run) runs h.0.piece.order h.0.piece.within h.1,
 )
 
 pub laws : (m : ℕ → ℕ) → IsCharacterMap m → CodesLaws m

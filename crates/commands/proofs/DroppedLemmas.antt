@@ -12,10 +12,10 @@ use Rattle.font_glyph.specs.Reach.Reach.{part, seed}
 use Rattle.font_tables.specs.Fields.{glyph_count_of}
 use Rattle.font_tables.specs.Outlines.{outline_of}
 use Rattle.font_theory.specs.Bytes.{padded}
-use Rattle.font_theory.specs.Content.{Font, Wanted, content, font_of, glyph_count, is_kept, is_root, read_back}
+use Rattle.font_theory.specs.Content.{Font, Wanted, content, glyph_count, is_kept, is_root, plain_font, read_back}
 use Rattle.font_theory.specs.Cut.{cut}
-use Rattle.font_theory.specs.Kinds.{AreSettings, Settings, fault_of, font_as, format_of, partition_of, reduced}
-use Rattle.font_theory.specs.Kinds.{settings, tables_as, tables_by, there_by}
+use Rattle.font_theory.specs.Kinds.{AreSettings, Settings, fault_of, font_of, format_of, partition_of, reduced}
+use Rattle.font_theory.specs.Kinds.{settings, tables_by, tables_of, there_by}
 use Rattle.font_theory.specs.Parting.{Partition, parts_of}
 use Rattle.font_theory.specs.declared.kinds.Kind.{Kind}
 use Rattle.font_theory.proofs.FileWantedLemmas.{outline-file}
@@ -40,11 +40,11 @@ module _ (kind : Kind) (font made : List ℕ) (wanted : Wanted) (accepted : faul
   is = settings-are kind
 
   abbrev F : Font
-  F = font_as kind font
+  F = font_of kind font
 
-  read : font_as kind made ≡ read_back (reduced p (content F wanted))
+  read : font_of kind made ≡ read_back (reduced p (content F wanted))
   read = (subst (λ (b : List ℕ). (fault_of kind b ≡ None)
-      × (font_as kind b ≡ read_back (reduced p (content F wanted)))) (sym written.is)
+      × (font_of kind b ≡ read_back (reduced p (content F wanted)))) (sym written.is)
       (font_by-cut s is font accepted wanted
       (subst (λ (b : List ℕ). length b ≤ MAX_FILE) written.is written.small))).1
 
@@ -71,10 +71,11 @@ module _ (kind : Kind) (font made : List ℕ) (wanted : Wanted) (accepted : faul
       sym (count-seen made (tables_by s made) (λ _. false) (tables_by-below s is made))
       ∙ ap (λ (G : Font). glyph_count G.copied) read
       ∙ count-reduced p is.partition F (IsFont-by s is font accepted) wanted
-      ∙ count-seen font (tables_by s font) (there_by s (tables_by s font) (font_of font).outline)
+      ∙ count-seen font (tables_by s font) (there_by s (tables_by s font) (plain_font font).outline)
       (tables_by-below s is font)
 
-  outline_is : (g : ℕ) → (font_of made).outline g ≡ record_in (λ x. when (is_kept F wanted x) (padded (F.outline x))) g
+  outline_is : (g : ℕ) → (plain_font made).outline g
+      ≡ record_in (λ x. when (is_kept F wanted x) (padded (F.outline x))) g
   unfolding reduced
   outline_is g = ap (λ (G : Font). G.outline g) read
 
@@ -87,5 +88,5 @@ module _ (kind : Kind) (font made : List ℕ) (wanted : Wanted) (accepted : faul
   drops_others = record {
     outlines = λ g u. no_outline g u.below (not_kept g u);
     parts = λ g u slot. parts-by s is font accepted wanted made read slot g
-        ∙ ap (λ b. cond b (parts_of p (tables_as kind font) slot g) []) (not_kept g u);
+        ∙ ap (λ b. cond b (parts_of p (tables_of kind font) slot g) []) (not_kept g u);
   }

@@ -19,7 +19,7 @@ use Rattle.font_map.specs.Mapping.{mapping_of}
 use Rattle.font_map.proofs.MappingLemmas.{mapping_of-small}
 use Rattle.font_subset.proofs.FontLemmas.{range_with_len-step}
 use Rattle.commands.specs.MappedGlyphs.{glyph_line, glyphs_text, mapped_from}
-use Rattle.commands.specs.Places.{IsPlace, IsPlaceFrom, codes_at}
+use Rattle.commands.specs.Places.{IsCodePlace, IsPlaceFrom, codes_at}
 use Rattle.commands.specs.declared.mapped_glyphs.Place.{Place}
 use Rattle.commands.proofs.CodesLemmas.{mapped_no, range_to, run-mapped, word-reads}
 
@@ -78,7 +78,7 @@ place_of_run m from place h at =
     }
 
 -- and goes on to the next code
-pub place_in_run : (m : ℕ → ℕ) (old new : Place) → IsPlace m old → old.code < old.run.last → new.run ≡ old.run
+pub place_in_run : (m : ℕ → ℕ) (old new : Place) → IsCodePlace m old → old.code < old.run.last → new.run ≡ old.run
     → new.code ≡ old.code + 1 → IsPlaceFrom m (old.code + 1) new
 place_in_run m old new h more same on =
     let run : IsRun m h.from new.run = subst (IsRun m h.from) (sym same) h.run in
@@ -94,11 +94,11 @@ place_in_run m old new h more same on =
     }
 
 -- the glyph of a place
-pub glyph_at : (m : ℕ → ℕ) (place : Place) → IsPlace m place → m place.code ≡ place.run.glyph
+pub glyph_at : (m : ℕ → ℕ) (place : Place) → IsCodePlace m place → m place.code ≡ place.run.glyph
     + (place.code - place.run.first)
 glyph_at m place h = run_gives m h.from place.run h.run place.code h.low h.high
 
-pub glyph_below : (file : List ℕ) (place : Place) → IsPlace (map_of file) place → map_of file place.code
+pub glyph_below : (file : List ℕ) (place : Place) → IsCodePlace (map_of file) place → map_of file place.code
     < glyph_count_of file
 glyph_below file place h =
     let at = glyph_at (map_of file) place h in
@@ -127,15 +127,15 @@ pub charted : (chart : List ℕ × ℕ) (file value : List ℕ) → chart ≡ (c
 charted chart file value same is = ap (λ (pair : List ℕ × ℕ). mapping_of pair.0 pair.1) same ∙ ap map_of is
 
 -- a glyph of a place is one of the font
-pub glyph_fits : (file value : List ℕ) (place : Place) → file ≡ value → IsPlace (map_of value) place
+pub glyph_fits : (file value : List ℕ) (place : Place) → file ≡ value → IsCodePlace (map_of value) place
     → place.run.glyph + (place.code - place.run.first) < glyph_count_of file
 glyph_fits file value place is h =
-    let there : IsPlace (map_of file) place = subst (λ (f : List ℕ). IsPlace (map_of f) place) (sym is) h in
+    let there : IsCodePlace (map_of file) place = subst (λ (f : List ℕ). IsCodePlace (map_of f) place) (sym is) h in
     omega (arith, glyph_at (map_of file) place there, glyph_below file place there)
 
 -- the first place, or the next one, and the codes from there on
 pub codes_from : (m : ℕ → ℕ) (from : ℕ) (place : Option Place)
-    → MatchOption place (mapped_from m from ≡ []) (IsPlaceFrom m from) → IfSome place (IsPlace m)
+    → MatchOption place (mapped_from m from ≡ []) (IsPlaceFrom m from) → IfSome place (IsCodePlace m)
     × (mapped_from m from ≡ codes_at m place)
 codes_from m from None none = (tt, none)
 codes_from m from (Some place) h = (h.there, h.first)
@@ -151,11 +151,11 @@ fewer_of : (m : ℕ → ℕ) (here : Place) (new : Option Place) → here.code �
 fewer_of m here None within next = omega (arith, within)
 fewer_of m here (Some place) within next = omega (arith, within, next.from_on)
 
-pub fewer_left : (m : ℕ → ℕ) (here : Place) (old new : Option Place) → old ≡ Some here → IfSome old (IsPlace m)
+pub fewer_left : (m : ℕ → ℕ) (here : Place) (old new : Option Place) → old ≡ Some here → IfSome old (IsCodePlace m)
     → MatchOption new (mapped_from m (here.code + 1) ≡ []) (IsPlaceFrom m (here.code + 1))
     → left_from new < left_from old
 fewer_left m here old new is there next =
-    let at : IsPlace m here = subst (λ (p : Option Place). IfSome p (IsPlace m)) is there in
+    let at : IsCodePlace m here = subst (λ (p : Option Place). IfSome p (IsCodePlace m)) is there in
     let within : here.code ≤ 0x10FFFF = omega (arith, at.high, at.run.piece.within) in
     subst (λ (p : Option Place). left_from new < left_from p) (sym is) (fewer_of m here new within next)
 

@@ -10,12 +10,12 @@ use Rattle.font_file.specs.declared.font_error.FontError.{FontError}
 use Rattle.font_file.specs.declared.font_error.FontError.TheVariants.{BadLayout, BadVariations, Directory}
 use Rattle.font_theory.specs.Closed.{is_bad_layout_in}
 use Rattle.font_theory.specs.Content.{is_bad_variations_in}
-use Rattle.font_theory.specs.Kinds.{fault_by, fault_of, settings, tables_as}
+use Rattle.font_theory.specs.Kinds.{fault_by, fault_of, settings, tables_of}
 use Rattle.font_theory.specs.declared.kinds.Kind.{Kind}
 use Rattle.font_subset.specs.CutOfFont.{IsWritten}
 use Rattle.font_subset.specs.OpenedFont.{closing_fault, cutting_fault}
 use Rattle.font_subset.proofs.CutLemmas.{is_sound_in}
-use Rattle.commands.specs.Run.{HoldsOfFont, Request, cut_for, fault_for, wanted_of}
+use Rattle.commands.specs.Run.{HoldsOfFont, Request, requested_cut, requested_fault, requested_wanted}
 use Rattle.commands.proofs.DroppedLemmas.{drops_others}
 
 -- what is not refused for links is not refused without
@@ -33,15 +33,16 @@ pub accepted_for : (closes : Bool) (kind : Kind) (file : List ℕ) → cutting_f
 unfolding fault_by closing_fault
 accepted_for true kind file h =
     fine_without (font_fault file) (option_map Directory (first_of_lines (tag_lines (settings kind).tags file)))
-    (is_bad_layout_in (tables_as kind file)) (is_bad_variations_in (tables_as kind file)) h
+    (is_bad_layout_in (tables_of kind file)) (is_bad_variations_in (tables_of kind file)) h
 accepted_for false kind file h = h
 
-pub holds_of_font : (r : Request) (file : List ℕ) → fault_for r file ≡ None → length (cut_for r file) ≤ MAX_FILE
+pub holds_of_font : (r : Request) (file : List ℕ) → requested_fault r file ≡ None
+    → length (requested_cut r file) ≤ MAX_FILE
     → HoldsOfFont r file
 holds_of_font r file accepted small =
     let fine = accepted_for r.closes r.kind file accepted in
-    let written : IsWritten (cut_for r file) (cut_for r file) = record { is = refl; small = small } in
+    let written : IsWritten (requested_cut r file) (requested_cut r file) = record { is = refl; small = small } in
     record {
-      sound = is_sound_in (r.kind, file) (cut_for r file) (wanted_of r file) fine written;
-      dropped = drops_others r.kind file (cut_for r file) (wanted_of r file) fine written;
+      sound = is_sound_in (r.kind, file) (requested_cut r file) (requested_wanted r file) fine written;
+      dropped = drops_others r.kind file (requested_cut r file) (requested_wanted r file) fine written;
     }

@@ -13,7 +13,7 @@ use Rattle.font_join.specs.declared.join_error.JoinError.TheVariants.{DifferentG
 use Rattle.font_join.specs.declared.join_error.JoinError.TheVariants.{Font, NoMemory, NotACut, TableTooLong, TooLarge}
 use Rattle.streams.specs.declared.outlet.Outlet.{Outlet}
 use Rattle.commands.specs.JoinRun.{AreGot, AreSpent, IsRightlyRefused, JoinStops, OnlySize, ReadStops}
-use Rattle.commands.specs.Run.{of_join_error, of_join_into_error}
+use Rattle.commands.specs.Run.{run_error_of_join, run_error_of_sent_join}
 use Rattle.streams.specs.declared.inlet.Inlet.{Inlet}
 use Rattle.commands.specs.declared.run_error.RunError.{RunError}
 use Rattle.commands.specs.declared.run_error.RunError.TheVariants as runs
@@ -22,7 +22,7 @@ use Rattle.commands.proofs.RunLemmas.{sends_all}
 
 pub only_size_of : (format : Format) (F : List ℕ) (A : ℕ → Wanted) (files : List (List ℕ)) (count : ℕ)
     → length files ≡ count → (error : JoinAllError) → IsForSizeOf format F A files error
-    → OnlySize format F A count (of_join_error error)
+    → OnlySize format F A count (run_error_of_join error)
 only_size_of format F A files count long NothingToJoin none = sym long ∙ ap length none
 only_size_of format F A files count long (At step NoMemory) is = tt
 only_size_of format F A files count long (At step (TooLarge size)) is = is
@@ -37,7 +37,7 @@ pub join_stopped : {R W : Type 0} (format : Format) (remaining : R → Option (L
     (old new : List (Inlet R)) (o : Outlet W) (files : List (List ℕ)) → length new ≡ length old → AreSpent new
     → AreGot remaining old files
     → (error : JoinAllError) → IsAllRefusal format files error
-    → JoinStops format remaining contents old new o o (of_join_error error)
+    → JoinStops format remaining contents old new o o (run_error_of_join error)
 join_stopped format remaining contents old new o files same spent got NothingToJoin r =
     (spent, refl, refl, (files, got, r))
 join_stopped format remaining contents old new o files same spent got (At step NoMemory) r =
@@ -59,7 +59,7 @@ join_stopped format remaining contents old new o files same spent got (At step (
 
 pub only_size_into : (format : Format) (F : List ℕ) (A : ℕ → Wanted) (files : List (List ℕ)) (count : ℕ)
     → length files ≡ count → (error : JoinAllIntoError) → IsForSizeInto format F A files error
-    → OnlySize format F A count (of_join_into_error error)
+    → OnlySize format F A count (run_error_of_sent_join error)
 only_size_into format F A files count long (NotJoined error) is = only_size_of format F A files count long error is
 only_size_into format F A files count long (WriteFault written) is = tt
 
@@ -81,9 +81,9 @@ pub into_stopped : {R W : Type 0} (format : Format) (remaining : R → Option (L
     (old new : List (Inlet R)) (o p : Outlet W) (files : List (List ℕ)) → length new ≡ length old → AreSpent new
     → AreGot remaining old files
     → (error : JoinAllIntoError) → StopsJoin format contents o p files error
-    → JoinStops format remaining contents old new o p (of_join_into_error error)
+    → JoinStops format remaining contents old new o p (run_error_of_sent_join error)
 into_stopped format remaining contents old new o p files same spent got (NotJoined error) stops =
-    subst (λ q. JoinStops format remaining contents old new o q (of_join_error error)) (sym stops.0)
+    subst (λ q. JoinStops format remaining contents old new o q (run_error_of_join error)) (sym stops.0)
     (join_stopped format remaining contents old new o files same spent got error stops.1)
 into_stopped format remaining contents old new o p files same spent got (WriteFault written) stops =
     (spent, stops.2.broken, sym stops.2.count, (files, got, (stops.0, stops.1, stops.2.front)))
@@ -101,7 +101,7 @@ finish_stopped format remaining contents old new o m p files spent got fresh z j
 -- a refusal of the join says what it should; no other error says anything of the files
 pub rightly_refused : {R : Type 0} (format : Format) (remaining : R → Option (List ℕ)) (old : List (Inlet R))
     (files : List (List ℕ)) → AreGot remaining old files → (error : JoinAllError) → AllRefusalIsRight format files error
-    → IsRightlyRefused format remaining old (of_join_error error)
+    → IsRightlyRefused format remaining old (run_error_of_join error)
 rightly_refused format remaining old files got NothingToJoin r = (files, got, r)
 rightly_refused format remaining old files got (At step NoMemory) r = tt
 rightly_refused format remaining old files got (At step (TooLarge size)) r = (files, got, r)
@@ -115,7 +115,7 @@ rightly_refused format remaining old files got (At step (TableTooLong tag)) r = 
 pub into_rightly_refused : {R : Type 0} (format : Format) (remaining : R → Option (List ℕ)) (old : List (Inlet R))
     (files : List (List ℕ)) → AreGot remaining old files → (error : JoinAllIntoError) → ((e : JoinAllError)
     → error ≡ NotJoined e → AllRefusalIsRight format files e)
-    → IsRightlyRefused format remaining old (of_join_into_error error)
+    → IsRightlyRefused format remaining old (run_error_of_sent_join error)
 into_rightly_refused format remaining old files got (NotJoined error) right =
     rightly_refused format remaining old files got error (right error refl)
 into_rightly_refused format remaining old files got (WriteFault written) right = tt

@@ -9,7 +9,7 @@ use Rattle.std.specs.List.{AllWithin}
 use Rattle.font_theory.specs.Tree.{file_at}
 use Rattle.streams.specs.Inlet.{Gives, StopsAs, inlet_broken_of, inlet_fresh_of}
 use Rattle.commands.specs.JoinRun.{AreGot, AreSpent, AreReadTo, BreaksAfter, IsSpent, ReadStops}
-use Rattle.commands.specs.Run.{got, of_read_error}
+use Rattle.commands.specs.Run.{got, run_error_of_read}
 use Rattle.streams.specs.declared.inlet.Inlet.{Inlet}
 use Rattle.streams.specs.declared.inlet.ReadError.{ReadError}
 use Rattle.streams.specs.declared.inlet.ReadError.TheVariants.{NoMemory, ReadFault}
@@ -105,7 +105,7 @@ module _ {R : Type 0} (remaining : R → Option (List ℕ)) where
           }
 
       pub stops_reading : inlet_fresh_of y ≡ false → (error : ReadError) → StopsAs remaining (get_or now k e) y error
-          → ReadStops remaining old (set now k y) (of_read_error error)
+          → ReadStops remaining old (set now k y) (run_error_of_read error)
       stops_reading spent (ReadFault count) stops = breaks_after count stops.0 stops.1
       stops_reading spent NoMemory whole = still_read spent whole
 

@@ -6,8 +6,8 @@ use Rattle.std.specs.Option.{IfSome}
 use Rattle.std.specs.Result.{IfOk, IsErrAnd}
 use Rattle.std.proofs.lemmas.Option.{IfSome_then, none-some}
 use Rattle.font_subset.specs.CutOfFont.{IsTooLarge, StopsCut}
-use Rattle.font_subset.specs.declared.cut_font.CutIntoError.{CutIntoError}
-use Rattle.font_subset.specs.declared.cut_font.CutIntoError.TheVariants as cut_errors
+use Rattle.font_write.specs.declared.cut_error.CutIntoError.{CutIntoError}
+use Rattle.font_write.specs.declared.cut_error.CutIntoError.TheVariants as cut_errors
 use Rattle.font_file.specs.declared.font_error.FontError.{FontError}
 use Rattle.sfnt_bytes.specs.declared.directory.TheConstants.{MAX_FILE}
 use Rattle.font_file.specs.Font.{font_fault}
@@ -18,10 +18,9 @@ use Rattle.font_subset.specs.declared.open_error.OpenError.TheVariants as open_e
 use Rattle.streams.specs.Outlet as outlets
 use Rattle.streams.specs.declared.outlet.Outlet.{Outlet}
 use Rattle.streams.specs.Inlet.{StopsAs, inlet_broken_of, inlet_fresh_of, reader_of}
-use Rattle.commands.specs.Run.{CutStops, SendsCut}
-use Rattle.commands.specs.Run.{HasCutIn, RefusesCutIn, Request, RunStops, SendsText, cut_for, fault_for, got}
-use Rattle.commands.specs.Run.{of_cut_error}
-use Rattle.commands.specs.Run.{of_open_error, of_read_error, stray_number}
+use Rattle.commands.specs.Run.{CutStops, HasCutIn, RefusesCutIn, Request, RunStops, SendsCut, SendsText, got}
+use Rattle.commands.specs.Run.{requested_cut, requested_fault, run_error_of_cut, run_error_of_open, run_error_of_read}
+use Rattle.commands.specs.Run.{stray_number}
 use Rattle.streams.specs.declared.inlet.Inlet.{Inlet}
 use Rattle.streams.specs.declared.inlet.ReadError.{ReadError}
 use Rattle.streams.specs.declared.inlet.ReadError.TheVariants.{NoMemory, ReadFault}
@@ -64,13 +63,13 @@ sends_all contents o m p z fresh sent flushed count is =
 pub read_stops : {R W : Type 0} (remaining : R → Option (List ℕ)) (contents : W → Option (List ℕ)) (serves : List ℕ
     → Type 0) (text : List ℕ → List ℕ) (refuses : RunError → Type 0) (i j : Inlet R) (o : Outlet W)
     → (error : ReadError)
-    → StopsAs remaining i j error → RunStops remaining contents serves text refuses i j o o (of_read_error error)
+    → StopsAs remaining i j error → RunStops remaining contents serves text refuses i j o o (run_error_of_read error)
 read_stops remaining contents serves text refuses i j o (ReadFault count) stops = (stops.0, stops.1, refl)
 read_stops remaining contents serves text refuses i j o NoMemory stops = (stops, refl)
 
 module _ (r : Request) where
   abbrev made : List ℕ → List ℕ
-  made file = cut_for r file
+  made file = requested_cut r file
 
   abbrev Has : List ℕ → Type 0
   Has = HasCutIn r
@@ -84,7 +83,7 @@ module _ (r : Request) where
   file_stops remaining contents i j o p file whole came (Font error) stops = (
     whole,
     stops.0,
-    got_of remaining i (λ (f : List ℕ). (fault_for r f ≡ Some error)
+    got_of remaining i (λ (f : List ℕ). (requested_fault r f ≡ Some error)
         × (font_fault f ≡ None → stray_number f r.numbers ≡ None)) file came (stops.1, stops.2),
   )
   file_stops remaining contents i j o p file whole came (NoGlyph number) stops = (
@@ -96,7 +95,7 @@ module _ (r : Request) where
   file_stops remaining contents i j o p file whole came (TooLarge size) stops = (
     whole,
     stops.0,
-    got_of remaining i (λ (f : List ℕ). (fault_for r f ≡ None) × (stray_number f r.numbers ≡ None)
+    got_of remaining i (λ (f : List ℕ). (requested_fault r f ≡ None) × (stray_number f r.numbers ≡ None)
         × IsTooLarge (made f) size) file came (stops.1, stops.2, stops.3),
   )
   file_stops remaining contents i j o p file whole came (Write count) stops = (
@@ -173,14 +172,14 @@ module _ (r : Request) where
   -- a file that is refused for the cuts that are asked for, or for which memory is refused
   pub open_stops : {W : Type 0} (contents : W → Option (List ℕ)) (file : List ℕ) (o : Outlet W)
       (error : OpenError) → stray_number file r.numbers ≡ None → IsCuttingRefusal r.closes r.kind file error
-      → CutStops contents r file o o (of_open_error error)
+      → CutStops contents r file o o (run_error_of_open error)
   open_stops contents file o open_errors.NoMemory known refused = refl
   open_stops contents file o (open_errors.Refused error) known refused = (refl, refused, λ _. known)
 
   -- a cut was not sent, or not all of it
   pub made_stops : {W : Type 0} (contents : W → Option (List ℕ)) (file : List ℕ) (o p : Outlet W)
-      → fault_for r file ≡ None → stray_number file r.numbers ≡ None → (error : CutIntoError)
-      → StopsCut contents o p (made file) error → CutStops contents r file o p (of_cut_error error)
+      → requested_fault r file ≡ None → stray_number file r.numbers ≡ None → (error : CutIntoError)
+      → StopsCut contents o p (made file) error → CutStops contents r file o p (run_error_of_cut error)
   made_stops contents file o p accepted known cut_errors.NoMemory stops = stops
   made_stops contents file o p accepted known (cut_errors.TooLarge size) stops = (stops.0, accepted, known, stops.1)
   made_stops contents file o p accepted known (cut_errors.WriteFault count) stops =

@@ -20,9 +20,9 @@ use Rattle.commands.specs.declared.run_error.RunError.TheVariants.{Font, Join, M
 use Rattle.commands.specs.declared.run_error.RunError.TheVariants.{Write}
 
 -- all that `belongs` prints
-abbrev pub answer_text : Bool → List ℕ
-answer_text true = line (codes "yes")
-answer_text false = line (codes "no")
+abbrev pub belongs_text : Bool → List ℕ
+belongs_text true = line (codes "yes")
+belongs_text false = line (codes "no")
 
 -- both files are accepted for cuts of a kind, and the answer says whether the first one is a cut of the second
 -- one for some codes, of the kind and in some form
@@ -79,7 +79,7 @@ BelongsStops kind remaining contents c d i j o p (OneOf which error) =
 BelongsStops kind remaining contents c d i j o p (Write count) =
     IsSpent d × IsSpent j × (outlets.broken_of p ≡ true) × (outlets.written_of p ≡ count)
     × ((answer : Bool) × got_both remaining c i (λ x y. Answers kind x y answer)
-    × outlets.WentOut contents o p (take count (answer_text answer)))
+    × outlets.WentOut contents o p (take count (belongs_text answer)))
 -- nothing else stops it
 BelongsStops kind remaining contents c d i j o p (Font error) = ⊥
 BelongsStops kind remaining contents c d i j o p (NoGlyph number) = ⊥

@@ -6,7 +6,7 @@ use Rattle.std.specs.Option.{option_map, option_map_or}
 use Rattle.sfnt_bytes.specs.declared.findings.Finding.{Finding}
 use Rattle.font_file.specs.declared.font_error.FontError.{FontError}
 use Rattle.sfnt_bytes.specs.Refusals.{directory_fault}
-use Rattle.font_file.specs.Text.{error_number, error_text}
+use Rattle.font_file.specs.Text.{font_error_number, font_error_text}
 use Rattle.sfnt_bytes.specs.Text.{finding_text}
 use Rattle.sfnt_bytes.specs.Findings.{findings_of}
 use Rattle.font_file.specs.Font.{font_fault}
@@ -28,7 +28,7 @@ findings_text findings =
 -- whether the file is accepted
 abbrev pub verdict_text : Option FontError → List ℕ
 verdict_text None = line (codes "accepted")
-verdict_text (Some error) = line (codes "refused " ++ decimal (error_number error) ++ 32 ∷ error_text error)
+verdict_text (Some error) = line (codes "refused " ++ decimal (font_error_number error) ++ 32 ∷ font_error_text error)
 
 -- the findings of a file whose directory is not refused
 abbrev pub read_findings : List ℕ → Option (List Finding)

@@ -13,8 +13,8 @@ use Rattle.font_map.specs.Mapping.{mapping_of}
 use Rattle.commands.specs.Check.{line}
 
 -- the codes of a run
-abbrev pub codes_of : Run → CodeRange
-codes_of run = record { first = run.first; last = run.last }
+abbrev pub range_of_run : Run → CodeRange
+range_of_run run = record { first = run.first; last = run.last }
 
 -- a range, and the ranges of the runs after it: a run that begins at the code after its last goes on with it
 abbrev pub ranges_on : CodeRange → List Run → List CodeRange
@@ -22,12 +22,12 @@ ranges_on range [] = range ∷ []
 ranges_on range (run ∷ runs) =
     if nat_eq run.first (range.last + 1)
     then ranges_on (record { first = range.first; last = run.last }) runs
-    else range ∷ ranges_on (codes_of run) runs
+    else range ∷ ranges_on (range_of_run run) runs
 
 -- the ranges of runs
 abbrev pub ranges_of : List Run → List CodeRange
 ranges_of [] = []
-ranges_of (run ∷ runs) = ranges_on (codes_of run) runs
+ranges_of (run ∷ runs) = ranges_on (range_of_run run) runs
 
 -- the ranges of the mapped codes from a given one on
 unfoldable pub code_ranges : (ℕ → ℕ) → ℕ → List CodeRange

@@ -7,13 +7,13 @@ use Rattle.sfnt_bytes.specs.Tag.{same_tag}
 use Rattle.sfnt_bytes.specs.declared.tag.Tag.{Tag}
 
 -- the tag is one of some tags
-abbrev pub is_among : List Tag → Tag → Bool
-is_among tags tag = list_any (λ gone. same_tag gone tag) tags
+abbrev pub is_tag_among : List Tag → Tag → Bool
+is_tag_among tags tag = list_any (λ gone. same_tag gone tag) tags
 
 -- record k, in which four blanks stand for a tag that goes
 unfoldable pub record_without : List Tag → List ℕ → ℕ → List ℕ
 record_without tags file k = let at = 12 + 16 * k in
-    (if is_among tags (tag_at file at) then codes "    " else slice_range file at (at + 4))
+    (if is_tag_among tags (tag_at file at) then codes "    " else slice_range file at (at + 4))
     ++ slice_range file (at + 4) (at + 16)
 
 -- the file with all its records written so

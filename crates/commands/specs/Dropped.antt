@@ -5,7 +5,7 @@ use Rattle.font_glyph.specs.Reach.{Reach}
 use Rattle.font_tables.specs.Fields.{glyph_count_of}
 use Rattle.font_tables.specs.Outlines.{outline_of}
 use Rattle.font_theory.specs.Content.{Wanted}
-use Rattle.font_theory.specs.Kinds.{partition_of, tables_as}
+use Rattle.font_theory.specs.Kinds.{partition_of, tables_of}
 use Rattle.font_theory.specs.Parting.{parts_of}
 use Rattle.font_theory.specs.declared.kinds.Kind.{Kind}
 
@@ -23,4 +23,4 @@ pub record DropsOthers (kind : Kind) (font : List ℕ) (wanted : Wanted) (made :
   pub outlines : (g : ℕ) → IsUnreached font wanted g → outline_of made g ≡ []
   pub parts :
       (g : ℕ) → IsUnreached font wanted g → (slot : ℕ) →
-      parts_of (partition_of kind) (tables_as kind made) slot g ≡ []
+      parts_of (partition_of kind) (tables_of kind made) slot g ≡ []

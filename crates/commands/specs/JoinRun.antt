@@ -11,7 +11,7 @@ use Rattle.streams.specs.Outlet as outlets
 use Rattle.font_join.specs.declared.join_error.JoinAllError.TheVariants.{At, NothingToJoin}
 use Rattle.streams.specs.declared.outlet.Outlet.{Outlet}
 use Rattle.streams.specs.Inlet as inlets
-use Rattle.commands.specs.Run.{got, of_join_error}
+use Rattle.commands.specs.Run.{got, run_error_of_join}
 use Rattle.streams.specs.declared.inlet.Inlet.{Inlet}
 use Rattle.commands.specs.declared.run_error.RunError.{RunError}
 use Rattle.commands.specs.declared.run_error.RunError.TheVariants.{Font, Join, Memory, NoGlyph, OneOf, Read, TooLarge}
@@ -76,7 +76,7 @@ JoinStops format remaining contents i j o p (Read count) = BreaksAfter remaining
 JoinStops format remaining contents i j o p Memory = AreReadTo i j × (p ≡ o)
 -- the files are refused, by the first refusal that applies, and nothing was sent
 JoinStops format remaining contents i j o p (Join error) =
-    AreSpent j × (p ≡ o) × (of_join_error error ≡ Join error)
+    AreSpent j × (p ≡ o) × (run_error_of_join error ≡ Join error)
     × OfGot remaining i (λ files. IsAllRefusal format files error)
 -- the outlet is broken, and this number of bytes of the join went out
 JoinStops format remaining contents i j o p (Write count) =

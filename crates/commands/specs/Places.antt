@@ -5,7 +5,7 @@ use Rattle.commands.specs.MappedGlyphs.{mapped_from}
 use Rattle.commands.specs.declared.mapped_glyphs.Place.{Place}
 
 -- a place is at a code of a run
-pub record IsPlace (m : ℕ → ℕ) (place : Place) : Type 0 where
+pub record IsCodePlace (m : ℕ → ℕ) (place : Place) : Type 0 where
   pub from : ℕ
   pub run : IsRun m from place.run
   pub low : place.run.first ≤ place.code
@@ -13,7 +13,7 @@ pub record IsPlace (m : ℕ → ℕ) (place : Place) : Type 0 where
 
 -- it is at the first mapped code from a given one on
 pub record IsPlaceFrom (m : ℕ → ℕ) (from : ℕ) (place : Place) : Type 0 where
-  pub there : IsPlace m place
+  pub there : IsCodePlace m place
   pub from_on : from ≤ place.code
   pub first : mapped_from m from ≡ place.code ∷ mapped_from m (place.code + 1)
 

@@ -5,7 +5,7 @@ use Rattle.std.specs.Prelude.{OnOk, Result, Some, option_copied, take}
 use Rattle.std.specs.List.{find}
 use Rattle.codes.specs.Wanted.{member}
 use Rattle.font_subset.specs.CutOfFont.{IsTooLarge}
-use Rattle.font_subset.specs.CutOfKind.{IsSoundIn, cut_as, keeps_links, wanted_with}
+use Rattle.font_subset.specs.CutOfKind.{IsSoundIn, closed_if, keeps_links, opened_font_cut}
 use Rattle.font_subset.specs.KeptGlyphs.{glyphs_wanted}
 use Rattle.font_subset.specs.OpenedFont.{cutting_fault}
 use Rattle.font_file.specs.declared.font_error.FontError.{FontError}
@@ -14,11 +14,11 @@ use Rattle.font_theory.specs.declared.kinds.Kind.TheVariants.{Full}
 use Rattle.font_theory.specs.declared.kinds.Kind.{Kind}
 use Rattle.sfnt_bytes.specs.declared.directory.TheConstants.{MAX_FILE}
 use Rattle.sfnt_bytes.specs.declared.numbers.TheConstants.{NO_MEMORY, READ_FAULT, TOO_LARGE, WRITE_FAULT}
-use Rattle.font_file.specs.Text.{error_number}
+use Rattle.font_file.specs.Text.{font_error_number}
 use Rattle.font_file.specs.Font.{font_fault}
 use Rattle.font_tables.specs.Fields.{glyph_count_of}
-use Rattle.font_subset.specs.declared.cut_font.CutIntoError.{CutIntoError}
-use Rattle.font_subset.specs.declared.cut_font.CutIntoError.TheVariants as cut_errors
+use Rattle.font_write.specs.declared.cut_error.CutIntoError.{CutIntoError}
+use Rattle.font_write.specs.declared.cut_error.CutIntoError.TheVariants as cut_errors
 use Rattle.font_subset.specs.declared.open_error.OpenError.{OpenError}
 use Rattle.font_subset.specs.declared.open_error.OpenError.TheVariants as open_errors
 use Rattle.font_join.specs.JoinText.{join_all_error_number}
@@ -85,8 +85,8 @@ abbrev pub AnyFile : List ℕ → Type 0
 AnyFile file = Unit {0}
 
 -- a file is accepted
-abbrev pub IsAccepted : List ℕ → Type 0
-IsAccepted file = font_fault file ≡ None
+abbrev pub IsAcceptedFont : List ℕ → Type 0
+IsAcceptedFont file = font_fault file ≡ None
 
 -- what is asked of a font: cuts of a kind, closed under links or not, for codes and for glyphs by number, or all glyphs
 pub record Request : Type 0 where
@@ -109,23 +109,23 @@ requested request = record {
 }
 
 -- the cut of a file that is asked for
-abbrev pub cut_for : Request → List ℕ → List ℕ
-cut_for r file =
-    cut_as (r.kind, (file, r.closes)) (record { codes = r.codes; glyphs = glyphs_wanted r.numbers })
+abbrev pub requested_cut : Request → List ℕ → List ℕ
+requested_cut r file =
+    opened_font_cut (r.kind, (file, r.closes)) (record { codes = r.codes; glyphs = glyphs_wanted r.numbers })
 
 -- why a file is refused for the cuts that are asked for
-abbrev pub fault_for : Request → List ℕ → Option FontError
-fault_for r file = cutting_fault r.closes r.kind file
+abbrev pub requested_fault : Request → List ℕ → Option FontError
+requested_fault r file = cutting_fault r.closes r.kind file
 
 -- what is wanted of a file, with all that links lead to where that is asked for
-abbrev pub wanted_of : Request → List ℕ → Wanted
-wanted_of r file =
-    wanted_with r.closes r.kind file (record { codes = r.codes; glyphs = glyphs_wanted r.numbers })
+abbrev pub requested_wanted : Request → List ℕ → Wanted
+requested_wanted r file =
+    closed_if r.closes r.kind file (record { codes = r.codes; glyphs = glyphs_wanted r.numbers })
 
 -- what the cut that is asked for has of its file, and what it has not
 pub record HoldsOfFont (r : Request) (file : List ℕ) : Type 0 where
-  pub sound : IsSoundIn r.kind file (wanted_of r file) (cut_for r file)
-  pub dropped : DropsOthers r.kind file (wanted_of r file) (cut_for r file)
+  pub sound : IsSoundIn r.kind file (requested_wanted r file) (requested_cut r file)
+  pub dropped : DropsOthers r.kind file (requested_wanted r file) (requested_cut r file)
 
 -- the first of the numbers that is no glyph of a file
 abbrev pub stray_number : List ℕ → Option (List ℕ) → Option ℕ
@@ -135,7 +135,7 @@ stray_number file (Some numbers) = find (λ g. nat_le (glyph_count_of file) g) n
 -- a file is accepted for the cuts that are asked for, its cut is not too large, and all numbers are glyphs
 abbrev pub HasCutIn : Request → List ℕ → Type 0
 HasCutIn r file =
-    (fault_for r file ≡ None) × (length (cut_for r file) ≤ MAX_FILE) × (stray_number file r.numbers ≡ None)
+    (requested_fault r file ≡ None) × (length (requested_cut r file) ≤ MAX_FILE) × (stray_number file r.numbers ≡ None)
 
 -- a file is accepted, and its cut for the wanted codes is not too large
 abbrev pub HasCut : (ℕ → Bool) → List ℕ → Type 0
@@ -160,13 +160,13 @@ RefusesFont remaining inlet (Write count) = ⊥
 -- or its cut has this size, more than a file may have
 abbrev pub RefusesCutIn : {R : Type 0} → Request → (R → Option (List ℕ)) → Inlet R → RunError → Type 0
 RefusesCutIn r remaining inlet (Font error) =
-    got remaining inlet (λ file. (fault_for r file ≡ Some error)
+    got remaining inlet (λ file. (requested_fault r file ≡ Some error)
     × (font_fault file ≡ None → stray_number file r.numbers ≡ None))
 RefusesCutIn r remaining inlet (NoGlyph number) =
     got remaining inlet (λ file. (font_fault file ≡ None) × (stray_number file r.numbers ≡ Some number))
 RefusesCutIn r remaining inlet (TooLarge size) =
-    got remaining inlet (λ file. (fault_for r file ≡ None) × (stray_number file r.numbers ≡ None)
-    × IsTooLarge (cut_for r file) size)
+    got remaining inlet (λ file. (requested_fault r file ≡ None) × (stray_number file r.numbers ≡ None)
+    × IsTooLarge (requested_cut r file) size)
 RefusesCutIn r remaining inlet (OneOf which error) = ⊥
 RefusesCutIn r remaining inlet (Join error) = ⊥
 RefusesCutIn r remaining inlet (Read count) = ⊥
@@ -180,15 +180,16 @@ abbrev pub CutStops : {W : Type 0} (contents : W → Option (List ℕ)) (r : Req
 CutStops contents r file o p Memory = p ≡ o
 -- the file is refused, a number is no glyph of it, or its cut is too large, and nothing was sent
 CutStops contents r file o p (Font error) =
-    (p ≡ o) × (fault_for r file ≡ Some error) × (font_fault file ≡ None → stray_number file r.numbers ≡ None)
+    (p ≡ o) × (requested_fault r file ≡ Some error) × (font_fault file ≡ None → stray_number file r.numbers ≡ None)
 CutStops contents r file o p (NoGlyph number) =
     (p ≡ o) × (font_fault file ≡ None) × (stray_number file r.numbers ≡ Some number)
 CutStops contents r file o p (TooLarge size) =
-    (p ≡ o) × (fault_for r file ≡ None) × (stray_number file r.numbers ≡ None) × IsTooLarge (cut_for r file) size
+    (p ≡ o) × (requested_fault r file ≡ None) × (stray_number file r.numbers ≡ None)
+    × IsTooLarge (requested_cut r file) size
 -- there is a cut, the outlet is broken, and this number of bytes went out
 CutStops contents r file o p (Write count) =
     (outlets.broken_of p ≡ true) × (outlets.written_of p ≡ count) × HasCutIn r file
-    × outlets.WentOut contents o p (take count (cut_for r file))
+    × outlets.WentOut contents o p (take count (requested_cut r file))
 -- nothing else stops it
 CutStops contents r file o p (Read count) = ⊥
 CutStops contents r file o p (OneOf which error) = ⊥
@@ -198,11 +199,11 @@ CutStops contents r file o p (Join error) = ⊥
 pub record SendsCut {W : Type 0} (contents : W → Option (List ℕ)) (held : W → List ℕ) (r : Request) (file : List ℕ)
     (o p : Outlet W) (result : Result ℕ RunError) : Type 0 where
   pub has : OnOk result (HasCutIn r file)
-  pub sent : OnOk result (outlets.WentOut contents o p (cut_for r file))
+  pub sent : OnOk result (outlets.WentOut contents o p (requested_cut r file))
   pub unbroken : OnOk result (outlets.broken_of p ≡ false)
   pub flushed : OnOk result (outlets.IsFlushed held p)
   pub holds : OnOk result (HoldsOfFont r file)
-  pub size : IfOk result (λ size. size ≡ length (cut_for r file))
+  pub size : IfOk result (λ size. size ≡ length (requested_cut r file))
   pub error : IfErr result (CutStops contents r file o p)
 
 -- a file is refused as a font, or its cut is too large
@@ -210,38 +211,38 @@ abbrev pub RefusesCut : {R : Type 0} → (R → Option (List ℕ)) → Inlet R �
 RefusesCut remaining inlet codes = RefusesCutIn (codes_request Full codes) remaining inlet
 
 -- the error of a run whose inlet was not read to its end
-abbrev pub of_read_error : ReadError → RunError
-of_read_error (ReadFault count) = Read count
-of_read_error NoMemory = Memory
+abbrev pub run_error_of_read : ReadError → RunError
+run_error_of_read (ReadFault count) = Read count
+run_error_of_read NoMemory = Memory
 
 -- the error of a run whose font is not opened for cuts of a kind
-abbrev pub of_open_error : OpenError → RunError
-of_open_error open_errors.NoMemory = Memory
-of_open_error (open_errors.Refused error) = Font error
+abbrev pub run_error_of_open : OpenError → RunError
+run_error_of_open open_errors.NoMemory = Memory
+run_error_of_open (open_errors.Refused error) = Font error
 
 -- the error of a run whose cut was not sent
-abbrev pub of_cut_error : CutIntoError → RunError
-of_cut_error cut_errors.NoMemory = Memory
-of_cut_error (cut_errors.TooLarge size) = TooLarge size
-of_cut_error (cut_errors.WriteFault count) = Write count
+abbrev pub run_error_of_cut : CutIntoError → RunError
+run_error_of_cut cut_errors.NoMemory = Memory
+run_error_of_cut (cut_errors.TooLarge size) = TooLarge size
+run_error_of_cut (cut_errors.WriteFault count) = Write count
 
 -- the error of a run whose files were not joined: out of memory is one and the same error at each step
-abbrev pub of_join_error : JoinAllError → RunError
-of_join_error (At step join_errors.NoMemory) = Memory
-of_join_error error = Join error
+abbrev pub run_error_of_join : JoinAllError → RunError
+run_error_of_join (At step join_errors.NoMemory) = Memory
+run_error_of_join error = Join error
 
 -- the error of a run whose join was not sent
-abbrev pub of_join_into_error : JoinAllIntoError → RunError
-of_join_into_error (join_into_errors.NotJoined error) = of_join_error error
-of_join_into_error (join_into_errors.WriteFault count) = Write count
+abbrev pub run_error_of_sent_join : JoinAllIntoError → RunError
+run_error_of_sent_join (join_into_errors.NotJoined error) = run_error_of_join error
+run_error_of_sent_join (join_into_errors.WriteFault count) = Write count
 
 -- the number of a run's error
 abbrev pub run_error_number : RunError → ℕ
 run_error_number (Read count) = READ_FAULT
 run_error_number Memory = NO_MEMORY
 run_error_number (Write count) = WRITE_FAULT
-run_error_number (Font error) = error_number error
-run_error_number (OneOf which error) = error_number error
+run_error_number (Font error) = font_error_number error
+run_error_number (OneOf which error) = font_error_number error
 run_error_number (NoGlyph number) = NO_GLYPH
 run_error_number (TooLarge size) = TOO_LARGE
 run_error_number (Join error) = join_all_error_number error

@@ -4,7 +4,7 @@ ghost use Rattle.sfnt_bytes.specs.Memory.{IsRefused};
 ghost use Rattle.streams.specs.Outlet.{IsFlushed, WentOut, broken_of, fresh_of};
 ghost use Rattle.font_theory.specs.declared.kinds.Kind.{Kind};
 ghost use Rattle.font_theory.specs.Kinds.{fault_of};
-ghost use Rattle.commands.specs.Belongs.{Answers, BelongsStops, IsUnanswered, IsUnopened, answer_text, got_both, of_unopened};
+ghost use Rattle.commands.specs.Belongs.{Answers, BelongsStops, IsUnanswered, IsUnopened, belongs_text, got_both, of_unopened};
 ghost use Rattle.streams.specs.Inlet.{inlet_fresh_of};
 ghost use Rattle.commands.specs.JoinRun.{IsSpent};
 
@@ -75,7 +75,7 @@ fn is_cut_in<A: Memory + Copy>(
 
 // Returns what is printed of an answer.
 fn answer(belongs: bool) -> &'static str
-    ensures { result.now ≡ answer_text belongs }
+    ensures { result.now ≡ belongs_text belongs }
 {
     if belongs { "yes\n" } else { "no\n" }
 }
@@ -102,7 +102,7 @@ pub fn run_belongs<R: Read, W: Flushes, A: Memory + Copy>(
 
     ensures answer { IfOk result (λ answer. got_both R.remaining cut.old font.old
         (λ x y. Answers kind x y answer)) }
-    ensures sent { IfOk result (λ answer. WentOut W.contents outlet.old outlet.new (answer_text answer)) }
+    ensures sent { IfOk result (λ answer. WentOut W.contents outlet.old outlet.new (belongs_text answer)) }
     ensures whole { OnOk result (IsSpent cut.new × IsSpent font.new × (broken_of outlet.new ≡ false)) }
     ensures flushed { OnOk result (IsFlushed W.held outlet.new) }
 

@@ -2,7 +2,7 @@
 ghost use Rattle.std.specs.Prelude.{◌≡◌, ◌+◌, ◌*◌, ◌++◌, ◌≤◌, length, IfOk, OnErr, OnOk};
 ghost use Rattle.sfnt_bytes.specs.Directory.{HasRecords, tag_at};
 ghost use Rattle.sfnt_bytes.specs.Memory.{IsRefused};
-ghost use Rattle.commands.specs.Drop.{is_among, record_without, without_tables};
+ghost use Rattle.commands.specs.Drop.{is_tag_among, record_without, without_tables};
 
 use sfnt_bytes::{Directory, Memory, NoMemory, Tag, be16};
 use std::alloc::AllocError;
@@ -21,7 +21,7 @@ const BLANKS: &[u8] = b"    ";
 #[tactic(auto, unfolding(sfnt_bytes::specs::Directory::tag_at))]
 fn is_gone(file: &[u8], at: usize, tags: &[Tag]) -> bool
     requires { at + 4 ≤ length file.now }
-    ensures { result ≡ is_among tags.now (tag_at file.now at) }
+    ensures { result ≡ is_tag_among tags.now (tag_at file.now at) }
 {
     let tag = Tag([file[at], file[at + 1], file[at + 2], file[at + 3]]);
     tags.iter().any(|gone| *gone == tag)

@@ -1,6 +1,6 @@
 //! `join`: the join of cuts.
 ghost use Rattle.std.specs.Prelude.{◌≡◌, ◌≤◌, ℕ, Bool, List, Err, IfErr, IfOk, MatchResult, OnOk, false, length, map, true};
-ghost use Rattle.font_subset.specs.CutOfKind.{cut_in};
+ghost use Rattle.font_subset.specs.CutOfKind.{cut_of};
 ghost use Rattle.font_theory.specs.Content.{Wanted};
 ghost use Rattle.font_theory.specs.declared.kinds.Kind.TheVariants.{Full};
 ghost use Rattle.sfnt_bytes.specs.Memory.{IsRefused};
@@ -61,7 +61,7 @@ pub fn run_join_of_kind<R: Read, W: Flushes, A: Memory + Copy>(
     ensures whole { OnOk result (AreSpent inlets.new × (broken_of outlet.new ≡ false)) }
     ensures flushed { OnOk result (IsFlushed W.held outlet.new) }
     ensures cuts { (F : List ℕ) (A : ℕ → Wanted) → GotCuts (format_of kind) R.remaining inlets.old F A →
-        MatchResult result (λ size. let z = cut_in kind F (union_below A (length inlets.old)) in
+        MatchResult result (λ size. let z = cut_of kind F (union_below A (length inlets.old)) in
         (size ≡ length z) × WentOut W.contents outlet.old outlet.new z)
         (OnlySize (format_of kind) F A (length inlets.old)) }
     ensures upper { IfOk result
@@ -99,7 +99,7 @@ pub fn run_join<R: Read, W: Flushes, A: Memory + Copy>(
     ensures whole { OnOk result (AreSpent inlets.new × (broken_of outlet.new ≡ false)) }
     ensures flushed { OnOk result (IsFlushed W.held outlet.new) }
     ensures cuts { (F : List ℕ) (A : ℕ → Wanted) → GotCuts (format_of Full) R.remaining inlets.old F A →
-        MatchResult result (λ size. let z = cut_in Full F (union_below A (length inlets.old)) in
+        MatchResult result (λ size. let z = cut_of Full F (union_below A (length inlets.old)) in
         (size ≡ length z) × WentOut W.contents outlet.old outlet.new z)
         (OnlySize (format_of Full) F A (length inlets.old)) }
     ensures upper { IfOk result

@@ -9,7 +9,7 @@ ghost use Rattle.commands.specs.Codes.{CodesLaws, code_lines, code_ranges, codes
 ghost use Rattle.streams.specs.Inlet.{inlet_fresh_of};
 ghost use Rattle.commands.specs.Inside.{RefusesText};
 ghost use Rattle.font_file.specs.Font.{font_fault};
-ghost use Rattle.commands.specs.Run.{IsAccepted, RefusesFont, SendsText};
+ghost use Rattle.commands.specs.Run.{IsAcceptedFont, RefusesFont, SendsText};
 
 use crate::run_error::{RunError, send};
 use crate::text_memory::TextMemory;
@@ -91,7 +91,8 @@ pub fn run_codes<R: Read, W: Flushes, A: TextMemory + Copy>(
 ) -> Result<(), RunError>
     requires inlet { inlet_fresh_of inlet.old ≡ true }
     requires outlet { fresh_of outlet.old ≡ true }
-    ensures sent { SendsText R.remaining W.contents IsAccepted codes_text (RefusesFont R.remaining inlet.old)
+    ensures sent { SendsText R.remaining W.contents IsAcceptedFont codes_text
+        (RefusesFont R.remaining inlet.old)
         inlet.old inlet.new outlet.old outlet.new result }
     ensures flushed { OnOk result (IsFlushed W.held outlet.new) }
     ensures memory { result ≡ Err RunError.Memory → IsRefused A.refuses }

@@ -9,9 +9,9 @@ ghost use Rattle.font_file.specs.Font.{font_fault, map_of};
 ghost use Rattle.streams.specs.Inlet.{inlet_fresh_of};
 ghost use Rattle.streams.specs.Outlet.{IsFlushed, fresh_of};
 ghost use Rattle.commands.specs.MappedGlyphs.{glyph_line, glyph_text, glyphs_text, mapped_from};
-ghost use Rattle.commands.specs.Places.{IsPlace, IsPlaceFrom};
+ghost use Rattle.commands.specs.Places.{IsCodePlace, IsPlaceFrom};
 ghost use Rattle.commands.specs.Inside.{RefusesText};
-ghost use Rattle.commands.specs.Run.{IsAccepted, RefusesFont, SendsText};
+ghost use Rattle.commands.specs.Run.{IsAcceptedFont, RefusesFont, SendsText};
 
 use crate::run_error::{RunError, send};
 use crate::text_memory::TextMemory;
@@ -82,7 +82,7 @@ impl<'a, A: Allocator> Glyphs<'a, A> {
 
     // Returns the place of the next mapped code.
     fn place_after(&self, place: Place) -> Option<Place>
-        requires { IsPlace (map_of self.now) place }
+        requires { IsCodePlace (map_of self.now) place }
         ensures { MatchOption result (mapped_from (map_of self.now) (place.code + 1) ≡ [])
             (IsPlaceFrom (map_of self.now) (place.code + 1)) }
     {
@@ -97,7 +97,7 @@ impl<'a, A: Allocator> Glyphs<'a, A> {
 
     // Returns the line of a place.
     fn line(&self, place: Place) -> GlyphLine
-        requires { IsPlace (map_of self.now) place }
+        requires { IsCodePlace (map_of self.now) place }
         ensures { glyph_text result.code result.glyph result.advance ≡ glyph_line self.now place.code }
     {
         let glyph = place.run.glyph + (place.code - place.run.first) as u16;
@@ -151,7 +151,8 @@ pub fn run_glyphs<R: Read, W: Flushes, A: TextMemory + Copy>(
 ) -> Result<(), RunError>
     requires inlet { inlet_fresh_of inlet.old ≡ true }
     requires outlet { fresh_of outlet.old ≡ true }
-    ensures sent { SendsText R.remaining W.contents IsAccepted glyphs_text (RefusesFont R.remaining inlet.old)
+    ensures sent { SendsText R.remaining W.contents IsAcceptedFont glyphs_text
+        (RefusesFont R.remaining inlet.old)
         inlet.old inlet.new outlet.old outlet.new result }
     ensures flushed { OnOk result (IsFlushed W.held outlet.new) }
     ensures memory { result ≡ Err RunError.Memory → IsRefused A.refuses }

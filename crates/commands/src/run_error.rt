@@ -1,7 +1,7 @@
 //! What the runs share: their error, and how they send what they have made.
 ghost use Rattle.std.specs.Prelude.{◌≡◌, false, true, take, IfErr, OnErr, OnOk};
 ghost use Rattle.streams.specs.Outlet.{IsFlushed, WentOut, broken_of, fresh_of, written_of};
-ghost use Rattle.commands.specs.Run.{of_cut_error, of_join_error, of_join_into_error, of_open_error, of_read_error, run_error_number};
+ghost use Rattle.commands.specs.Run.{run_error_of_cut, run_error_of_join, run_error_of_sent_join, run_error_of_open, run_error_of_read, run_error_number};
 ghost use Rattle.commands.specs.declared.run_error.RunError.TheVariants.{Font, Memory, Write};
 ghost use Rattle.commands.specs.declared.run_error.TheConstants.{NO_GLYPH as NO_GLYPH_NUMBER};
 
@@ -69,7 +69,7 @@ impl RunError {
 }
 
 impl From<ReadError> for RunError {
-    ghost from_gives = { λ held error. error ≡ of_read_error held };
+    ghost from_gives = { λ held error. error ≡ run_error_of_read held };
 
     fn from(error: ReadError) -> RunError {
         match error {
@@ -112,7 +112,7 @@ impl From<FontError> for RunError {
 }
 
 impl From<OpenError> for RunError {
-    ghost from_gives = { λ held error. error ≡ of_open_error held };
+    ghost from_gives = { λ held error. error ≡ run_error_of_open held };
 
     fn from(error: OpenError) -> RunError {
         match error {
@@ -123,7 +123,7 @@ impl From<OpenError> for RunError {
 }
 
 impl From<CutIntoError> for RunError {
-    ghost from_gives = { λ held error. error ≡ of_cut_error held };
+    ghost from_gives = { λ held error. error ≡ run_error_of_cut held };
 
     fn from(error: CutIntoError) -> RunError {
         match error {
@@ -136,7 +136,7 @@ impl From<CutIntoError> for RunError {
 
 // If out of memory, the error of a run is `Memory`, whatever step it comes at.
 impl From<JoinAllError> for RunError {
-    ghost from_gives = { λ held error. error ≡ of_join_error held };
+    ghost from_gives = { λ held error. error ≡ run_error_of_join held };
 
     fn from(error: JoinAllError) -> RunError {
         match error {
@@ -150,7 +150,7 @@ impl From<JoinAllError> for RunError {
 }
 
 impl From<JoinAllIntoError> for RunError {
-    ghost from_gives = { λ held error. error ≡ of_join_into_error held };
+    ghost from_gives = { λ held error. error ≡ run_error_of_sent_join held };
 
     fn from(error: JoinAllIntoError) -> RunError {
         match error {

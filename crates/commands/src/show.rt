@@ -9,7 +9,7 @@ ghost use Rattle.font_map.specs.Mapping.{mapping_of};
 ghost use Rattle.streams.specs.Inlet.{inlet_fresh_of};
 ghost use Rattle.streams.specs.Outlet.{IsFlushed, fresh_of};
 ghost use Rattle.commands.specs.Inside.{RefusesText};
-ghost use Rattle.commands.specs.Run.{IsAccepted, RefusesFont, SendsText};
+ghost use Rattle.commands.specs.Run.{IsAcceptedFont, RefusesFont, SendsText};
 ghost use Rattle.commands.specs.Show.{cut_text, dropped_line, dropped_text, font_text, kept_line, kept_table_line, kept_text, mapped_text, numbers_text, show_text};
 
 use crate::run_error::{RunError, send};
@@ -229,7 +229,8 @@ pub fn run_show<R: Read, W: Flushes, A: TextMemory + Copy>(
 ) -> Result<(), RunError>
     requires inlet { inlet_fresh_of inlet.old ≡ true }
     requires outlet { fresh_of outlet.old ≡ true }
-    ensures sent { SendsText R.remaining W.contents IsAccepted show_text (RefusesFont R.remaining inlet.old)
+    ensures sent { SendsText R.remaining W.contents IsAcceptedFont show_text
+        (RefusesFont R.remaining inlet.old)
         inlet.old inlet.new outlet.old outlet.new result }
     ensures flushed { OnOk result (IsFlushed W.held outlet.new) }
     ensures memory { result ≡ Err RunError.Memory → IsRefused A.refuses }

@@ -2,13 +2,13 @@
 ghost use Rattle.std.specs.Prelude.{◌≡◌, ◌≤◌, Err, None, IfOk, OnOk, length, nat_le, option_copied, true};
 ghost use Rattle.std.specs.List.{find};
 ghost use Rattle.sfnt_bytes.specs.Memory.{IsRefused};
-ghost use Rattle.font_subset.specs.CutOfFont.{cut_of};
+ghost use Rattle.font_subset.specs.CutOfFont.{full_cut};
 ghost use Rattle.sfnt_bytes.specs.declared.directory.TheConstants.{MAX_FILE};
 ghost use Rattle.font_file.specs.Font.{font_fault};
 ghost use Rattle.codes.specs.Wanted.{member};
 ghost use Rattle.streams.specs.Outlet.{IsFlushed, fresh_of};
 ghost use Rattle.streams.specs.Inlet.{inlet_fresh_of};
-ghost use Rattle.commands.specs.Run.{HasCut, HasCutIn, RefusesCut, RefusesCutIn, SendsCut, SendsText, codes_request, cut_for, got, requested, stray_number};
+ghost use Rattle.commands.specs.Run.{HasCut, HasCutIn, RefusesCut, RefusesCutIn, SendsCut, SendsText, codes_request, requested_cut, got, requested, stray_number};
 
 use crate::cut_request::CutRequest;
 use crate::run_error::RunError;
@@ -86,12 +86,13 @@ pub fn run_subset_of_request<R: Read, W: Flushes, A: Memory + Copy>(
 ) -> Result<u64, RunError>
     requires inlet { inlet_fresh_of inlet.old ≡ true }
     requires outlet { fresh_of outlet.old ≡ true }
-    ensures sent { SendsText R.remaining W.contents (HasCutIn (requested request.now)) (cut_for (requested request.now))
+    ensures sent { SendsText R.remaining W.contents (HasCutIn (requested request.now))
+        (requested_cut (requested request.now))
         (RefusesCutIn (requested request.now) R.remaining inlet.old)
         inlet.old inlet.new outlet.old outlet.new result }
     ensures flushed { OnOk result (IsFlushed W.held outlet.new) }
     ensures size { IfOk result (λ size. (size ≤ MAX_FILE) × got R.remaining inlet.old
-        (λ file. size ≡ length (cut_for (requested request.now) file))) }
+        (λ file. size ≡ length (requested_cut (requested request.now) file))) }
     ensures memory { result ≡ Err RunError.Memory → IsRefused A.refuses }
 {
     let file = inlet.read_all(alloc)?;
@@ -117,11 +118,11 @@ pub fn run_subset_of_kind<R: Read, W: Flushes, A: Memory + Copy>(
     requires inlet { inlet_fresh_of inlet.old ≡ true }
     requires outlet { fresh_of outlet.old ≡ true }
     ensures sent { let r = codes_request kind (member wanted.now) in
-        SendsText R.remaining W.contents (HasCutIn r) (cut_for r) (RefusesCutIn r R.remaining inlet.old)
+        SendsText R.remaining W.contents (HasCutIn r) (requested_cut r) (RefusesCutIn r R.remaining inlet.old)
         inlet.old inlet.new outlet.old outlet.new result }
     ensures flushed { OnOk result (IsFlushed W.held outlet.new) }
     ensures size { IfOk result (λ size. (size ≤ MAX_FILE) × got R.remaining inlet.old
-        (λ file. size ≡ length (cut_for (codes_request kind (member wanted.now)) file))) }
+        (λ file. size ≡ length (requested_cut (codes_request kind (member wanted.now)) file))) }
     ensures memory { result ≡ Err RunError.Memory → IsRefused A.refuses }
 {
     let request = CutRequest {
@@ -150,12 +151,12 @@ pub fn run_subset<R: Read, W: Flushes, A: Memory + Copy>(
     requires inlet { inlet_fresh_of inlet.old ≡ true }
     requires outlet { fresh_of outlet.old ≡ true }
     ensures sent { SendsText R.remaining W.contents (HasCut (member wanted.now))
-        (λ file. cut_of file (member wanted.now))
+        (λ file. full_cut file (member wanted.now))
         (RefusesCut R.remaining inlet.old (member wanted.now))
         inlet.old inlet.new outlet.old outlet.new result }
     ensures flushed { OnOk result (IsFlushed W.held outlet.new) }
     ensures size { IfOk result (λ size. (size ≤ MAX_FILE) × got R.remaining inlet.old
-        (λ file. size ≡ length (cut_of file (member wanted.now)))) }
+        (λ file. size ≡ length (full_cut file (member wanted.now)))) }
     ensures memory { result ≡ Err RunError.Memory → IsRefused A.refuses }
 {
     run_subset_of_kind(alloc, Kind::Full, inlet, wanted, outlet)

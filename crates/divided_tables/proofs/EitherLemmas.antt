@@ -1,14 +1,19 @@
 -- Tables that are laid over others.
-use Rattle.std.proofs.Common.{◌≡◌, ℕ, ◌<◌, ◌≤◌, ◌⊎◌, List, [], get_or, length, Option, None, Some, unwrap_or, inl}
-use Rattle.std.proofs.Common.{inr, refl, sym, ap, ◌∙◌, subst, arith}
-use Rattle.std.specs.Int.Bits.{bit_or, or_zero_r}
+use Rattle.std.proofs.Common.{◌≡◌, ℕ, ◌<◌, ◌≤◌, ◌⊎◌, Bool, true, false, cond, List, [], get_or, length, Option, None}
+use Rattle.std.proofs.Common.{Some, is_some, unwrap_or, inl, inr, refl, sym, ap, ◌∙◌, subst, arith}
+use Rattle.std.specs.Int.Bits.{bit_or, or_self, or_zero_l, or_zero_r}
 use Rattle.std.specs.Option.{option_map}
 use Rattle.std.proofs.lemmas.Bool.{cases_lt}
-use Rattle.std.proofs.lemmas.List.{get_or_past}
-use Rattle.std.proofs.lemmas.List.FromFn.{fill_by_all}
-use Rattle.font_theory.specs.Parted.{either_bytes}
+use Rattle.std.proofs.lemmas.List.{ext_get_or, get_or_past}
+use Rattle.std.proofs.lemmas.List.FromFn.{fill_by_all, get_or-map-range_with_len}
+use Rattle.font_theory.specs.Content.{Content, glyph_count}
+use Rattle.font_theory.specs.Parted.{either_bytes, holder, is_entry, laid, metrics, nameless, pairs_of, place_in_entry}
+use Rattle.font_theory.specs.Parting.{Tables, context}
+use Rattle.font_theory.proofs.EntryLemmas.{get_or-laid, length-laid}
+use Rattle.font_theory.proofs.HeldLemmas.{cases_option}
 use Rattle.font_theory.proofs.KindJoinLemmas.{length-either_bytes}
 use Rattle.font_write.specs.declared.source.TheConstants.{MAX_TABLE}
+use Rattle.divided_tables.specs.PartedTable.{IsUnionOf, made_or_laid}
 
 -- a table is as long with another laid over it
 
@@ -45,3 +50,91 @@ either_all t b now stop past are =
             sym (ap (bit_or (get_or t j 0)) none ∙ or_zero_r (get_or t j 0))
       ]
     ])
+
+get_or-either_bytes : (x y : List ℕ) (j : ℕ) → j < length x → get_or (either_bytes x y) j 0 ≡ bit_or (get_or x j 0)
+    (get_or y j 0)
+unfolding either_bytes
+get_or-either_bytes x y j low = get_or-map-range_with_len (λ j. bit_or (get_or x j 0) (get_or y j 0)) 0 (length x) j j 0
+    low (omega arith)
+
+either_bytes-self : (x : List ℕ) → either_bytes x x ≡ x
+either_bytes-self x =
+    let size = length-either_bytes x x in
+    ext_get_or 0 _ _ (omega arith) (λ j low. get_or-either_bytes x x j (omega arith) ∙ or_self (get_or x j 0))
+
+-- the bytes of glyphs in a table that is laid over another are those of either, where one has none
+laid-either : (u first second : ℕ → List ℕ) (k n : ℕ) (t : List ℕ)
+    → ((g w : ℕ) → get_or (u g) w 0 ≡ bit_or (get_or (first g) w 0) (get_or (second g) w 0))
+    → either_bytes (laid first k n t) (laid second k n t) ≡ laid u k n t
+laid-either u first second k n t each =
+    let a = length-laid u k n t in
+    let b = length-laid first k n t in
+    let d = length-either_bytes (laid first k n t) (laid second k n t) in
+    sym (ext_get_or 0 _ _ (omega arith) (λ j low.
+    get_or-laid u k n t j (omega arith) ∙ byte j (is_entry k n j)
+    ∙ (λ i. bit_or (sym (get_or-laid first k n t j (omega arith)) i) (sym (get_or-laid second k n t j (omega arith)) i))
+    ∙ sym (get_or-either_bytes (laid first k n t) (laid second k n t) j (omega arith))))
+  where
+    byte : (j : ℕ) (e : Bool) → cond e (get_or (u (holder k j)) (place_in_entry k j) 0) (get_or t j 0)
+        ≡ bit_or (cond e (get_or (first (holder k j)) (place_in_entry k j) 0) (get_or t j 0))
+        (cond e (get_or (second (holder k j)) (place_in_entry k j) 0) (get_or t j 0))
+    byte j true = each (holder k j) (place_in_entry k j)
+    byte j false = sym (or_self (get_or t j 0))
+
+-- the parts of glyphs in the union of two contents, byte by byte
+module _ (C E : Content) (P Q : ℕ → List ℕ) (first_kept : (g : ℕ) → C.outline g ≡ None → P g ≡ [])
+    (second_kept : (g : ℕ) → E.outline g ≡ None → Q g ≡ [])
+    (same : (g : ℕ) (a b : List ℕ) → C.outline g ≡ Some a → E.outline g ≡ Some b → P g ≡ Q g) where
+  pub each_byte : (g w : ℕ) → get_or (cond (is_some (C.outline g)) (P g) (Q g)) w 0 ≡ bit_or (get_or (P g) w 0)
+      (get_or (Q g) w 0)
+  each_byte g w =
+      elim (cases_option (C.outline g)) [
+        | inl none ↦
+            ap (λ o. get_or (cond (is_some o) (P g) (Q g)) w 0) none
+            ∙ sym (or_zero_l (get_or (Q g) w 0))
+            ∙ ap (λ (x : List ℕ). bit_or (get_or x w 0) (get_or (Q g) w 0)) (sym (first_kept g none))
+        | inr a ↦
+            ap (λ o. get_or (cond (is_some o) (P g) (Q g)) w 0) a.1
+            ∙ elim (cases_option (E.outline g)) [
+              | inl none ↦ sym (or_zero_r (get_or (P g) w 0))
+                  ∙ ap (λ (x : List ℕ). bit_or (get_or (P g) w 0) (get_or x w 0)) (sym (second_kept g none))
+              | inr b ↦ sym (or_self (get_or (P g) w 0))
+                  ∙ ap (λ (x : List ℕ). bit_or (get_or (P g) w 0) (get_or x w 0)) (same g a.0 b.0 a.1 b.1)
+            ]
+      ]
+
+-- so a union has tables of metrics laid over one another, and names that are those of either
+pub metrics_united : (header slot : ℕ) (C E : Content) → IsUnionOf (metrics header) slot C E None
+unfolding metrics
+metrics_united header slot C E = λ c P Q are.
+    let R : ℕ → List ℕ = λ g. cond (is_some (C.outline g)) (P g) (Q g) in
+    (λ i. made_or_laid None (are.first i) (unwrap_or (are.second i) []))
+    ∙ go c P Q R (each_byte C E P Q are.first_kept are.second_kept are.same) (c slot)
+  where
+    go : (c : Tables) (P Q R : ℕ → List ℕ)
+        → ((g w : ℕ) → get_or (R g) w 0 ≡ bit_or (get_or (P g) w 0) (get_or (Q g) w 0)) → (o : Option (List ℕ))
+        → option_map (λ t. either_bytes t (unwrap_or (option_map (λ f. laid Q (pairs_of (context c) header f)
+        (glyph_count (context c)) f) o) []))
+        (option_map (λ f. laid P (pairs_of (context c) header f) (glyph_count (context c)) f) o)
+        ≡ option_map (λ f. laid R (pairs_of (context c) header f) (glyph_count (context c)) f) o
+    go c P Q R each None = refl
+    go c P Q R each (Some f) =
+        ap Some (laid-either R P Q (pairs_of (context c) header f) (glyph_count (context c)) f each)
+
+pub names_united : (slot : ℕ) (C E : Content) → IsUnionOf nameless slot C E None
+unfolding nameless
+names_united slot C E = λ c P Q are.
+    (λ i. made_or_laid None (are.first i) (unwrap_or (are.second i) [])) ∙ go (c slot)
+  where
+    go : (o : Option (List ℕ)) → option_map (λ t. either_bytes t (unwrap_or (option_map (λ f. f) o) []))
+        (option_map (λ f. f) o) ≡ option_map (λ f. f) o
+    go None = refl
+    go (Some f) = ap Some (either_bytes-self f)
+
+-- a table that was made, or that another was laid over, is short
+pub laid_short : (made own result : Option (List ℕ)) (b : List ℕ) → result ≡ made_or_laid made own b
+    → length (unwrap_or made []) ≤ MAX_TABLE → length (unwrap_or own []) ≤ MAX_TABLE
+    → length (unwrap_or result []) ≤ MAX_TABLE
+laid_short (Some t) own result b e short other =
+    subst (λ (q : Option (List ℕ)). length (unwrap_or q []) ≤ MAX_TABLE) (sym e) short
+laid_short None own result b e short other = either_short own result b e other

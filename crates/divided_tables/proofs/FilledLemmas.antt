@@ -9,12 +9,13 @@ use Rattle.std.proofs.lemmas.List.{length-take, length-take-le}
 use Rattle.std.specs.Option.{IsSome, is_some, option_map}
 use Rattle.font_theory.specs.Bytes.{bytes32}
 use Rattle.font_theory.specs.Content.{Content, glyph_count}
-use Rattle.font_theory.specs.Parted.{blank, cleared, entry_at, entry_size, holder, is_entry, thin_post, within}
+use Rattle.font_theory.specs.Parted.{blank, cleared, entry_size, entry_start, holder, is_entry, place_in_entry}
+use Rattle.font_theory.specs.Parted.{thin_post}
 use Rattle.font_theory.proofs.EntryLemmas.{get_or-blank, get_or-cleared, is_byte_of, is_place, length-blank}
 use Rattle.font_theory.proofs.EntryLemmas.{length-cleared}
 use Rattle.font_theory.proofs.PartedLemmas.{thin_post-short}
 use Rattle.font_write.specs.Parts.{IsNextKept}
-use Rattle.divided_tables.specs.Open.{AreCopied}
+use Rattle.divided_tables.specs.OpenMetrics.{AreCopied}
 use borrow.Rule.Slice.PartMut.{post_of, put_mid}
 
 -- a part of a table, copied
@@ -203,34 +204,34 @@ module _ (keeps : ℕ → Bool) (k n : ℕ) (t : List ℕ) where
   module _ (old new : List ℕ) (g next : ℕ) (some : 0 < k) (few : k ≤ n) (low : g < n) (kept : keeps g ≡ true) (more : g
       < next)
       (none : (h : ℕ) → g + 1 ≤ h → h < next → keeps h ≡ false) (was : old ≡ filled keeps k n t g)
-      (copied : AreCopied t (entry_at k g) (entry_size k g) old new) where
+      (copied : AreCopied t (entry_start k g) (entry_size k g) old new) where
     was_byte : (j : ℕ) → j < length t → get_or old j 0 ≡ filled_byte keeps k n t g j
     was_byte j small = ap (λ (l : List ℕ). get_or l j 0) was ∙ get_or-cleared (λ h. keeps h && nat_lt h g) k n t j small
 
     -- a byte that is not of this glyph stays
-    is_outside : (j : ℕ) → ((entry_at k g ≤ j) → (j < entry_at k g + entry_size k g) → ⊥) → (j < entry_at k g)
-        ⊎ (entry_at k g + entry_size k g ≤ j)
+    is_outside : (j : ℕ) → ((entry_start k g ≤ j) → (j < entry_start k g + entry_size k g) → ⊥) → (j < entry_start k g)
+        ⊎ (entry_start k g + entry_size k g ≤ j)
     is_outside j not_in =
-        elim (cases_lt j (entry_at k g)) [
+        elim (cases_lt j (entry_start k g)) [
           | inl before ↦ inl before
-          | inr from ↦ elim (cases_lt j (entry_at k g + entry_size k g)) [
+          | inr from ↦ elim (cases_lt j (entry_start k g + entry_size k g)) [
             | inl here ↦
                 absurd (not_in from here)
             | inr after ↦ inr after
           ]
         ]
 
-    holder_in : (j : ℕ) → entry_at k g ≤ j → j < entry_at k g + entry_size k g → holder k j ≡ g
+    holder_in : (j : ℕ) → entry_start k g ≤ j → j < entry_start k g + entry_size k g → holder k j ≡ g
     holder_in j from here =
-        let at : entry_at k g + (j - entry_at k g) ≡ j = omega arith in
-        ap (holder k) (sym at) ∙ (is_byte_of k n g (j - entry_at k g) some few low (omega arith)).holder
+        let at : entry_start k g + (j - entry_start k g) ≡ j = omega arith in
+        ap (holder k) (sym at) ∙ (is_byte_of k n g (j - entry_start k g) some few low (omega arith)).holder
 
     -- no byte of a glyph
     byte_of_none : (j : ℕ) → j < length t → is_entry k n j ≡ false → get_or new j 0 ≡ filled_byte keeps k n t next j
     byte_of_none j small f =
-        elim (cases_lt j (entry_at k g)) [
+        elim (cases_lt j (entry_start k g)) [
           | inl before ↦ copied.outside j (inl before) ∙ was_byte j small ∙ byte_other keeps k n t g j f
-          | inr from ↦ elim (cases_lt j (entry_at k g + entry_size k g)) [
+          | inr from ↦ elim (cases_lt j (entry_start k g + entry_size k g)) [
             | inl here ↦ copied.inside j from here
             | inr after ↦ copied.outside j (inr after) ∙ was_byte j small ∙ byte_other keeps k n t g j f
           ]
@@ -241,8 +242,10 @@ module _ (keeps : ℕ → Bool) (k n : ℕ) (t : List ℕ) where
     byte_of_this : (j : ℕ) → is_entry k n j ≡ true → holder k j ≡ g → get_or new j 0 ≡ filled_byte keeps k n t next j
     byte_of_this j e same =
         let place = is_place k n j few e in
-        let at : entry_at k g + within k j ≡ j = ap (λ (x : ℕ). entry_at k x + within k j) (sym same) ∙ place.at in
-        let small : within k j < entry_size k g = subst (λ (x : ℕ). within k j < entry_size k x) same place.small in
+        let at : entry_start k g + place_in_entry k j ≡ j =
+        ap (λ (x : ℕ). entry_start k x + place_in_entry k j) (sym same) ∙ place.at in
+        let small : place_in_entry k j < entry_size k g =
+        subst (λ (x : ℕ). place_in_entry k j < entry_size k x) same place.small in
         copied.inside j (omega arith) (omega arith)
         ∙ sym (byte_below keeps k n t next j (omega arith)
         ∙ (λ i. cond (e i && not ((ap keeps same ∙ kept) i)) 0 (get_or t j 0)))
@@ -315,12 +318,12 @@ module _ (K : Content) (k : ℕ) (t : List ℕ) where
   }
 
   pub filled_step : (old new : List ℕ) (g place next : ℕ) → 0 < k → k ≤ n → g < n → place ≡ g → AreFilled K k t old g
-      → AreCopied t (entry_at k place) (entry_size k place) old new → IsNextKept K (g + 1) next
+      → AreCopied t (entry_start k place) (entry_size k place) old new → IsNextKept K (g + 1) next
       → AreFilled K k t new next
   filled_step old new g place next some few low same are copied to = record {
     is = filled-more (λ h. is_some (K.outline h)) k n t old new g next some few low (are.kept low)
         (let from = to.from_on in omega arith) (λ h from below. ap is_some (to.passed h from below)) are.is
-        (subst (λ (x : ℕ). AreCopied t (entry_at k x) (entry_size k x) old new) same copied);
+        (subst (λ (x : ℕ). AreCopied t (entry_start k x) (entry_size k x) old new) same copied);
     within = to.within;
     kept = to.kept;
   }
@@ -331,8 +334,8 @@ module _ (K : Content) (k : ℕ) (t : List ℕ) where
 
 -- the bytes of a glyph stand in the table
 pub entry_room : (k n g : ℕ) (t : List ℕ) → 0 < k → k ≤ n → g < n → 2 * (k + n) ≤ length t
-    → entry_at k g + entry_size k g ≤ length t
-unfolding entry_at entry_size
+    → entry_start k g + entry_size k g ≤ length t
+unfolding entry_start entry_size
 entry_room k n g t some few low room =
     let ne : nat_eq k 0 ≡ false = ne_eqb k 0 (λ e. omega arith) in
     elim (cases_lt (g + 1) k) [

@@ -6,7 +6,9 @@ use Rattle.std.specs.List.{range_with_len}
 use Rattle.std.specs.Str.{bytes_eq}
 use Rattle.std.proofs.lemmas.Bool.{cases_lt, le-ltb, lt-ltb, ne_eqb}
 use Rattle.std.proofs.lemmas.List.{get_or-drop, get_or-take}
-use Rattle.font_theory.specs.Parted.{bare, entry_at, entry_size, metric_bytes}
+use Rattle.font_theory.proofs.EntryLemmas.{four-same, four-zero, metric_bytes-is}
+use Rattle.font_theory.proofs.PartedLemmas.{bare-zeros}
+use Rattle.font_theory.specs.Parted.{bare, entry_size, entry_start, metric_bytes}
 
 -- a bearing has two bytes
 pub entry_size-two : (k g : ℕ) → 0 < k → entry_size k g ≢ 4 → entry_size k g ≡ 2
@@ -21,20 +23,20 @@ entry_size-two k g some other =
 -- four bytes of a pair, or two of a bearing
 module _ (k : ℕ) (t : List ℕ) (g : ℕ) where
   pub four_bytes : entry_size k g ≡ 4 → metric_bytes k t g
-      ≡ get_or t (entry_at k g) 0 ∷ get_or t (entry_at k g + 1) 0 ∷ get_or t (entry_at k g + 2) 0
-      ∷ get_or t (entry_at k g + 3) 0 ∷ []
+      ≡ get_or t (entry_start k g) 0 ∷ get_or t (entry_start k g + 1) 0 ∷ get_or t (entry_start k g + 2) 0
+      ∷ get_or t (entry_start k g + 3) 0 ∷ []
   unfolding metric_bytes
   four_bytes e =
-      (λ i. map (λ j. if nat_lt j (e i) then get_or t (entry_at k g + j) 0 else 0) (range_with_len 0 4))
-      ∙ ap (λ (n : ℕ). get_or t n 0 ∷ get_or t (entry_at k g + 1) 0 ∷ get_or t (entry_at k g + 2) 0
-      ∷ get_or t (entry_at k g + 3) 0 ∷ []) (add-zero (entry_at k g))
+      (λ i. map (λ j. if nat_lt j (e i) then get_or t (entry_start k g + j) 0 else 0) (range_with_len 0 4))
+      ∙ ap (λ (n : ℕ). get_or t n 0 ∷ get_or t (entry_start k g + 1) 0 ∷ get_or t (entry_start k g + 2) 0
+      ∷ get_or t (entry_start k g + 3) 0 ∷ []) (add-zero (entry_start k g))
 
   pub two_bytes : entry_size k g ≡ 2 → metric_bytes k t g
-      ≡ get_or t (entry_at k g) 0 ∷ get_or t (entry_at k g + 1) 0 ∷ 0 ∷ 0 ∷ []
+      ≡ get_or t (entry_start k g) 0 ∷ get_or t (entry_start k g + 1) 0 ∷ 0 ∷ 0 ∷ []
   unfolding metric_bytes
   two_bytes e =
-      (λ i. map (λ j. if nat_lt j (e i) then get_or t (entry_at k g + j) 0 else 0) (range_with_len 0 4))
-      ∙ ap (λ (n : ℕ). get_or t n 0 ∷ get_or t (entry_at k g + 1) 0 ∷ 0 ∷ 0 ∷ []) (add-zero (entry_at k g))
+      (λ i. map (λ j. if nat_lt j (e i) then get_or t (entry_start k g + j) 0 else 0) (range_with_len 0 4))
+      ∙ ap (λ (n : ℕ). get_or t n 0 ∷ get_or t (entry_start k g + 1) 0 ∷ 0 ∷ 0 ∷ []) (add-zero (entry_start k g))
 
   pub no_bytes : k ≡ 0 → 0 ∷ 0 ∷ 0 ∷ 0 ∷ [] ≡ metric_bytes k t g
   unfolding metric_bytes entry_size
@@ -49,16 +51,16 @@ module _ (k g : ℕ) (some : 0 < k) where
   unfolding entry_size
   pair_size pair = let x = lt-ltb (g + 1) k pair in rw (ne, x) refl
 
-  pair_place : g + 1 < k → entry_at k g ≡ 4 * g
-  unfolding entry_at
+  pair_place : g + 1 < k → entry_start k g ≡ 4 * g
+  unfolding entry_start
   pair_place pair = let x = lt-ltb (g + 1) k pair in rw x refl
 
   bearing_size : k ≤ g + 1 → entry_size k g ≡ 2
   unfolding entry_size
   bearing_size late = let x = le-ltb (g + 1) k late in rw (ne, x) refl
 
-  bearing_place : k ≤ g + 1 → entry_at k g ≡ 2 * (k + g)
-  unfolding entry_at
+  bearing_place : k ≤ g + 1 → entry_start k g ≡ 2 * (k + g)
+  unfolding entry_start
   bearing_place late = let x = le-ltb (g + 1) k late in rw x refl
 
 module _ (k : ℕ) (t : List ℕ) (g : ℕ) (some : 0 < k) where
@@ -119,3 +121,8 @@ module _ (k : ℕ) (t : List ℕ) (from to g : ℕ) (some : 0 < k) (low : from �
       (omega (arith, high)) in
       ap (λ (b : List ℕ). nat_lt 0 (length (bare b))) (bearing_bytes k t g some (omega (arith, late, low)))
       ∙ (λ i. nat_lt 0 (length (bare (x i ∷ y i ∷ 0 ∷ 0 ∷ [])))) ∙ sym (some_of_four 0 0 0 0)
+
+-- there is nothing in a table that there is not
+pub nothing_bare : (k g : ℕ) → bare (metric_bytes k [] g) ≡ []
+nothing_bare k g =
+    ap bare (metric_bytes-is k [] g ∙ four-same k g _ (λ i. 0) (λ i h. refl) ∙ four-zero k g) ∙ bare-zeros

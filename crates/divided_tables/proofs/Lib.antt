@@ -4,5 +4,6 @@ pub mod FourLemmas
 pub mod KindPartLemmas
 pub mod MadeLemmas
 pub mod MetricTableLemmas
+pub mod NameLemmas
 pub mod OpenLemmas
 pub mod VariationLemmas

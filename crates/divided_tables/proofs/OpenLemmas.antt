@@ -1,86 +1,84 @@
 -- The parts of a glyph, as they are told of tables that are open.
-use Rattle.std.proofs.Common.{◌≡◌, ◌≢◌, ℕ, ◌<◌, Bool, true, false, nat_lt, ◌&&◌, ◌||◌, inl, inr, List, []}
+use Rattle.std.proofs.Common.{◌≡◌, ℕ, ◌<◌, Bool, true, false, nat_lt, ◌&&◌, ◌||◌, inl, inr, List, []}
 use Rattle.std.proofs.Common.{length, refl, sym, ◌∙◌, ap, subst, arith}
 use Rattle.std.specs.Cmp.{both_ways}
 use Rattle.std.specs.Str.{bytes_eq}
-use Rattle.std.proofs.lemmas.Bool.{cases_eq, or_cases, or_left, or_right}
+use Rattle.std.proofs.lemmas.Bool.{or_cases, or_left, or_right}
 use Rattle.std.proofs.lemmas.Slice.Eq.{bytes_eq-Decides}
-use Rattle.sfnt_bytes.specs.declared.tag.TheConstants.{ALL_SLOTS, GVAR, HHEA, HMTX, VHEA, VMTX}
+use Rattle.sfnt_bytes.specs.declared.tag.TheConstants.{ALL_SLOTS, GVAR, HHEA, HMTX, POST, VHEA, VMTX}
 use Rattle.font_glyph.specs.Reach.{any_below}
 use Rattle.font_glyph.proofs.FoundLemmas.{any_decides}
-use Rattle.font_theory.specs.Content.{glyph_count, table_in_slot}
-use Rattle.font_theory.specs.Kinds.{by_variations}
-use Rattle.font_theory.specs.Parted.{bare, metric_bytes, pairs_in}
-use Rattle.font_theory.specs.Parting.{Tables, parts_of}
-use Rattle.font_theory.proofs.EntryLemmas.{length-metric_bytes}
-use Rattle.font_theory.proofs.WordLemmas.{bare-same, part-across, part-data, part-down, part-none, part-same}
-use Rattle.divided_tables.specs.Open.{AreOpen, IsMetricsIn, OpenMetrics, OpenParts, data_in, has_metrics, has_parts}
-use Rattle.divided_tables.specs.Open.{has_same_parts, own_metrics}
-use Rattle.divided_tables.proofs.VariationLemmas.{data_opened}
+use Rattle.font_theory.specs.Content.{glyph_count}
+use Rattle.font_theory.specs.Parted.{metrics, nameless, variations}
+use Rattle.font_theory.specs.Parting.{Parting, Tables, may_divide, parts_of}
+use Rattle.font_theory.proofs.PartLemmas.{by_slot, no_slot, parts_of-alike, parts_of-undivided}
+use Rattle.font_theory.proofs.PartedLemmas.{IsPartition-variations}
+use Rattle.divided_tables.specs.DividedTables.{AreOpen, OpenParts, count_in, finest, has_parts, has_same_parts}
+use Rattle.divided_tables.specs.OpenMetrics.{metrics_parts}
+use Rattle.divided_tables.specs.PartedTable.{ArePartsIn, GlyphParts, alone, no_parts}
+use Rattle.divided_tables.specs.OpenVariations.{variations_parts}
+use Rattle.divided_tables.proofs.MadeLemmas.{not_divided}
 
-part : Tables → ℕ → ℕ → List ℕ
-part c slot g = parts_of by_variations c slot g
+pub count_open : (c : Tables) (o : OpenParts) → AreOpen c o → count_in o ≡ glyph_count c
+count_open c o are = are.across_is.count_is
+
+-- what is told of a glyph by the tables of four slots, and of no other, is told of it by any
+module _ (p : ℕ → Bool) (others : (slot : ℕ) → may_divide slot ≡ false → p slot ≡ false) where
+  told : (slot : ℕ) → p slot ≡ true → (p HMTX || p VMTX || p POST || p GVAR) ≡ true
+  told = by_slot (λ slot. p slot ≡ true → (p HMTX || p VMTX || p POST || p GVAR) ≡ true)
+      (λ t. or_right (p HMTX || p VMTX || p POST) (p GVAR) t)
+      (λ t. or_left _ _ (or_left _ _ (or_left _ _ t)))
+      (λ t. or_left _ _ (or_right (p HMTX || p VMTX) (p POST) t))
+      (λ t. or_left _ _ (or_left _ _ (or_right (p HMTX) (p VMTX) t)))
+      (λ slot d a b e t. no_slot (sym (others slot (not_divided slot d a b e)) ∙ t))
+
+  there : (slot : ℕ) → slot < ALL_SLOTS → p slot ≡ true → any_below p ALL_SLOTS ≡ true
+  there slot low t = (any_decides p ALL_SLOTS).1 (slot, low, t)
+
+  pub any_divided : (p HMTX || p VMTX || p POST || p GVAR) ≡ any_below p ALL_SLOTS
+  any_divided = both_ways _ _
+      (λ t. elim (or_cases (p HMTX || p VMTX || p POST) (p GVAR) t) [
+        | inl x ↦ elim (or_cases (p HMTX || p VMTX) (p POST) x) [
+          | inl y ↦ elim (or_cases (p HMTX) (p VMTX) y) [
+            | inl z ↦ there HMTX (omega arith) z
+            | inr z ↦ there VMTX (omega arith) z
+          ]
+          | inr y ↦ there POST (omega arith) y
+        ]
+        | inr x ↦ there GVAR (omega arith) x
+      ])
+      (λ t. let w = (any_decides p ALL_SLOTS).0 t in told w.0 w.2)
 
 module _ (c : Tables) (o : OpenParts) (are : AreOpen c o) (g : ℕ) (low : g < glyph_count c) where
-  metrics_of : (header slot : ℕ) (m : OpenMetrics) → IsMetricsIn c header slot m
-      → own_metrics m g ≡ metric_bytes (pairs_in c header slot) (table_in_slot c slot) g
-  metrics_of header slot m is = λ i. metric_bytes (is.pairs_are i) (is.bytes_are i) g
+  part_at : (D : Parting) (slot : ℕ) (table : GlyphParts) → ArePartsIn D slot c table → D ≡ finest slot
+      → table.part g ≡ parts_of finest c slot g
+  part_at D slot table is e =
+      is.parts_are g (subst (λ (n : ℕ). g < n) (sym is.count_is) low) ∙ parts_of-alike (alone D) finest c slot e g
 
-  pub across_part : bare (own_metrics o.across g) ≡ parts_of by_variations c HMTX g
-  across_part = ap bare (metrics_of HHEA HMTX o.across are.across_is)
-      ∙ sym (part-same c g HMTX (λ e. omega (arith, e)) ∙ part-across c g low)
+  pub across_part : (metrics_parts o.across).part g ≡ parts_of finest c HMTX g
+  across_part = part_at (metrics HHEA) HMTX (metrics_parts o.across) are.across_parts refl
 
-  pub down_part : bare (own_metrics o.down g) ≡ parts_of by_variations c VMTX g
-  down_part = ap bare (metrics_of VHEA VMTX o.down are.down_is)
-      ∙ sym (part-same c g VMTX (λ e. omega (arith, e)) ∙ part-down c g low)
+  pub down_part : (metrics_parts o.down).part g ≡ parts_of finest c VMTX g
+  down_part = part_at (metrics VHEA) VMTX (metrics_parts o.down) are.down_parts refl
 
-  pub data_part : data_in o.gvar g ≡ parts_of by_variations c GVAR g
-  data_part = ap (λ v. data_in v g) are.gvar_is ∙ data_opened c g ∙ sym (part-data c g low)
+  pub name_part : (no_parts o.names).part g ≡ parts_of finest c POST g
+  name_part = part_at nameless POST (no_parts o.names) are.names_parts refl
 
-  pub other_part : (slot : ℕ) → slot ≢ GVAR → slot ≢ HMTX → slot ≢ VMTX → parts_of by_variations c slot g ≡ []
-  other_part slot d a b = part-same c g slot d ∙ part-none c g slot a b
+  pub varied_part : (variations_parts o.varied).part g ≡ parts_of finest c GVAR g
+  varied_part = part_at variations GVAR (variations_parts o.varied) are.varied_parts refl
+
+  pub other_part : (slot : ℕ) → may_divide slot ≡ false → parts_of finest c slot g ≡ []
+  other_part slot f = parts_of-undivided finest c slot (IsPartition-variations.others slot f) g
+
+  abbrev some_bytes : List ℕ → Bool
+  some_bytes b = nat_lt 0 (length b)
 
   -- a glyph has a part in one of the tables that are open, or in none
-  abbrev some_at : ℕ → Bool
-  some_at slot = nat_lt 0 (length (parts_of by_variations c slot g))
-
-  abbrev is_some_bytes : List ℕ → Bool
-  is_some_bytes b = nat_lt 0 (length b)
-
-  there_at : (slot : ℕ) → slot < ALL_SLOTS → some_at slot ≡ true → any_below some_at ALL_SLOTS ≡ true
-  there_at slot on some = (any_decides some_at ALL_SLOTS).1 (slot, on, some)
-
-  three : Bool
-  three = has_metrics o.across g || has_metrics o.down g || is_some_bytes (data_in o.gvar g)
-
-  no_part : {X : Type 0} (slot : ℕ) → slot ≢ GVAR → slot ≢ HMTX → slot ≢ VMTX → some_at slot ≡ true → X
-  no_part slot d a b some = let e : false ≡ true = sym (ap is_some_bytes (other_part slot d a b)) ∙ some in cc
-
-  told : (slot : ℕ) → some_at slot ≡ true → has_parts o g ≡ true
-  told slot some = elim (cases_eq slot HMTX) [
-    | inl e ↦ or_left _ _ (or_left _ _ (ap is_some_bytes across_part
-        ∙ subst (λ (k : ℕ). some_at k ≡ true) e some))
-    | inr a ↦ elim (cases_eq slot VMTX) [
-      | inl e ↦ or_left _ _ (or_right (has_metrics o.across g) _ (ap is_some_bytes down_part
-          ∙ subst (λ (k : ℕ). some_at k ≡ true) e some))
-      | inr b ↦ elim (cases_eq slot GVAR) [
-        | inl e ↦ or_right (has_metrics o.across g || has_metrics o.down g) _ (ap is_some_bytes data_part
-            ∙ subst (λ (k : ℕ). some_at k ≡ true) e some)
-        | inr d ↦ no_part slot d a b some
-      ]
-    ]
-  ]
-
-  pub has_parts-is : has_parts o g ≡ any_below (λ slot. nat_lt 0 (length (parts_of by_variations c slot g))) ALL_SLOTS
-  has_parts-is = both_ways _ _
-      (λ t. elim (or_cases (has_metrics o.across g || has_metrics o.down g) _ t) [
-        | inl m ↦ elim (or_cases (has_metrics o.across g) _ m) [
-          | inl x ↦ there_at HMTX (omega arith) (sym (ap is_some_bytes across_part) ∙ x)
-          | inr x ↦ there_at VMTX (omega arith) (sym (ap is_some_bytes down_part) ∙ x)
-        ]
-        | inr x ↦ there_at GVAR (omega arith) (sym (ap is_some_bytes data_part) ∙ x)
-      ])
-      (λ t. let w = (any_decides some_at ALL_SLOTS).0 t in told w.0 w.2)
+  pub has_parts-is : has_parts o g ≡ any_below (λ slot. nat_lt 0 (length (parts_of finest c slot g))) ALL_SLOTS
+  has_parts-is =
+      (λ i. some_bytes (across_part i) || some_bytes (down_part i) || some_bytes (name_part i)
+      || some_bytes (varied_part i))
+      ∙ any_divided (λ slot. some_bytes (parts_of finest c slot g)) (λ slot f. ap some_bytes (other_part slot f))
 
 both_true : (x y : Bool) → (x && y) ≡ true → (x ≡ true) × (y ≡ true)
 both_true true y h = (refl, h)
@@ -93,38 +91,32 @@ all_true false y p q = cc
 -- a glyph has the same parts in two tables that are open exactly where each is the same
 module _ (c d : Tables) (o p : OpenParts) (first : AreOpen c o) (second : AreOpen d p) (g : ℕ)
     (lowc : g < glyph_count c) (lowd : g < glyph_count d) where
-  own_same : (m n : OpenMetrics) → bare (own_metrics m g) ≡ bare (own_metrics n g)
-      → bytes_eq (own_metrics m g) (own_metrics n g) ≡ true
-  own_same m n e = (bytes_eq-Decides _ _).1 (bare-same (own_metrics m g) (own_metrics n g)
-      (length-metric_bytes m.pairs m.bytes g) (length-metric_bytes n.pairs n.bytes g) e)
+  abbrev same_at : ℕ → Bool
+  same_at slot = bytes_eq (parts_of finest c slot g) (parts_of finest d slot g)
 
-  pub parts_same : has_same_parts o p g ≡ true → (slot : ℕ)
-      → parts_of by_variations c slot g ≡ parts_of by_variations d slot g
-  parts_same h slot =
-      let x = both_true _ _ h in
+  all_same : has_same_parts o p g ≡ (same_at HMTX && (same_at VMTX && (same_at POST && same_at GVAR)))
+  all_same = λ i. bytes_eq (across_part c o first g lowc i) (across_part d p second g lowd i)
+      && (bytes_eq (down_part c o first g lowc i) (down_part d p second g lowd i)
+      && (bytes_eq (name_part c o first g lowc i) (name_part d p second g lowd i)
+      && bytes_eq (varied_part c o first g lowc i) (varied_part d p second g lowd i)))
+
+  is_same : (slot : ℕ) → same_at slot ≡ true → parts_of finest c slot g ≡ parts_of finest d slot g
+  is_same slot t = (bytes_eq-Decides _ _).0 t
+
+  pub parts_same : has_same_parts o p g ≡ true → (slot : ℕ) → parts_of finest c slot g ≡ parts_of finest d slot g
+  parts_same h =
+      let x = both_true _ _ (sym all_same ∙ h) in
       let y = both_true _ _ x.1 in
-      elim (cases_eq slot HMTX) [
-        | inl e ↦ subst (λ (k : ℕ). parts_of by_variations c k g ≡ parts_of by_variations d k g) (sym e)
-            (sym (across_part c o first g lowc) ∙ ap bare ((bytes_eq-Decides _ _).0 x.0)
-            ∙ across_part d p second g lowd)
-        | inr a ↦ elim (cases_eq slot VMTX) [
-          | inl e ↦ subst (λ (k : ℕ). parts_of by_variations c k g ≡ parts_of by_variations d k g) (sym e)
-              (sym (down_part c o first g lowc) ∙ ap bare ((bytes_eq-Decides _ _).0 y.0) ∙ down_part d p second g lowd)
-          | inr b ↦ elim (cases_eq slot GVAR) [
-            | inl e ↦ subst (λ (k : ℕ). parts_of by_variations c k g ≡ parts_of by_variations d k g) (sym e)
-                (sym (data_part c o first g lowc) ∙ (bytes_eq-Decides _ _).0 y.1 ∙ data_part d p second g lowd)
-            | inr v ↦ other_part c o first g lowc slot v a b ∙ sym (other_part d p second g lowd slot v a b)
-          ]
-        ]
-      ]
+      let z = both_true _ _ y.1 in
+      by_slot (λ slot. parts_of finest c slot g ≡ parts_of finest d slot g) (is_same GVAR z.1) (is_same HMTX x.0)
+      (is_same POST z.0) (is_same VMTX y.0)
+      (λ slot a b e f. let no = not_divided slot a b e f in
+      other_part c o first g lowc slot no ∙ sym (other_part d p second g lowd slot no))
 
-  pub same_parts : ((slot : ℕ) → slot < ALL_SLOTS → parts_of by_variations c slot g ≡ parts_of by_variations d slot g)
+  pub same_parts : ((slot : ℕ) → slot < ALL_SLOTS → parts_of finest c slot g ≡ parts_of finest d slot g)
       → has_same_parts o p g ≡ true
-  same_parts same = all_true _ _
-      (own_same o.across p.across (across_part c o first g lowc ∙ same HMTX (omega arith)
-      ∙ sym (across_part d p second g lowd)))
-      (all_true _ _
-      (own_same o.down p.down (down_part c o first g lowc ∙ same VMTX (omega arith)
-      ∙ sym (down_part d p second g lowd)))
-      ((bytes_eq-Decides _ _).1 (data_part c o first g lowc ∙ same GVAR (omega arith)
-      ∙ sym (data_part d p second g lowd))))
+  same_parts same =
+      let at : (slot : ℕ) → slot < ALL_SLOTS → same_at slot ≡ true =
+      λ slot low. (bytes_eq-Decides _ _).1 (same slot low) in
+      all_same ∙ all_true _ _ (at HMTX (omega arith)) (all_true _ _ (at VMTX (omega arith))
+      (all_true _ _ (at POST (omega arith)) (at GVAR (omega arith))))

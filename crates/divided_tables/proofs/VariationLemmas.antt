@@ -14,17 +14,24 @@ use Rattle.sfnt_bytes.specs.declared.directory.TheConstants.{MAX_FILE}
 use Rattle.sfnt_bytes.specs.declared.tag.TheConstants.{FVAR, GVAR}
 use Rattle.font_variations.specs.Gvar.{data_of, data_offset, from_data, front_of, is_bad_variations}
 use Rattle.font_variations.specs.Gvar.{shared_tuples_length, shared_tuples_of, shared_tuples_offset}
-use Rattle.font_variations.specs.MadeGvar.{data_at, gvar_bytes, listed_data}
+use Rattle.font_variations.specs.MadeGvar.{data_at, gvar_bytes, listed_data, offset_bytes, tuples_at, u16_bytes}
+use Rattle.font_variations.specs.MadeGvar.{u32_bytes}
 use Rattle.font_variations.proofs.GivenLemmas.{listed_by_index, made_of_listed}
-use Rattle.font_variations.proofs.LawLemmas.{lead_in_order}
+use Rattle.font_variations.proofs.LawLemmas.{lead_in_order, listed_same, made_read, parts_fit}
 use Rattle.font_variations.proofs.MadeLemmas.{length-made}
 use Rattle.font_theory.specs.Content.{Content, glyph_count, is_bad_variations_in, table_in_slot}
-use Rattle.font_theory.specs.Parted.{gvar_with, variation_data}
-use Rattle.font_theory.specs.Parting.{Tables}
-use Rattle.font_theory.proofs.WordLemmas.{variation_data-none}
+use Rattle.font_theory.specs.Kinds.{by_variations, reduced}
+use Rattle.font_theory.specs.Parted.{gvar_with, variation_data, variations}
+use Rattle.font_theory.specs.Parting.{Tables, context, frames, is_bad_at}
+use Rattle.font_theory.proofs.PartLemmas.{parts_of-alike}
+use Rattle.font_theory.proofs.PartedLemmas.{gvar_with-again}
+use Rattle.font_theory.proofs.WordLemmas.{count-context, part-data, variation_data-none}
 use Rattle.font_write.specs.Parts.{IsNextKept}
 use Rattle.font_write.specs.declared.source.TheConstants.{MAX_TABLE}
-use Rattle.divided_tables.specs.Open.{HasFineGvar, OpenGvar, data_in, either_data, opened_gvar}
+use Rattle.divided_tables.specs.PartedTable.{AreJoinable, ArePartsIn, IsFine, IsUnionOf, alone, is_bad_in}
+use Rattle.divided_tables.specs.PartedTable.{made_or_laid}
+use Rattle.divided_tables.specs.OpenVariations.{AreVariationsOf, OpenGvar, OpenVariations, data_in, either_data}
+use Rattle.divided_tables.specs.OpenVariations.{opened_gvar, united_gvar, variations_parts}
 
 -- data that rise by their offsets have no more bytes than lie between the first offset and the last
 within_offsets : (at : ℕ → ℕ) (of_glyph : ℕ → List ℕ) (low n : ℕ)
@@ -110,16 +117,15 @@ either_shorter true x y = omega arith
 either_shorter false x y = omega arith
 
 -- tables with a `gvar`
+good_gvar : (c : Tables) → IsFine GVAR c → is_bad_variations_in c ≡ false
+unfolding is_bad_variations_in context glyph_count
+good_gvar c fine = fine.good
+
 accepted_some : (c : Tables) (t : List ℕ) → is_bad_variations_in c ≡ false → c GVAR ≡ Some t
     → is_bad_variations t (c FVAR) (glyph_count c) ≡ false
 unfolding is_bad_variations_in
 accepted_some c t ok e =
     sym (ap (λ o. option_map_or (λ gvar. is_bad_variations gvar (c FVAR) (glyph_count c)) o false) e) ∙ ok
-
-pub accepted_at : (c : Tables) (t : List ℕ) (f : Option (List ℕ)) (n : ℕ) → HasFineGvar c → c GVAR ≡ Some t
-    → f ≡ c FVAR → n ≡ glyph_count c → is_bad_variations t f n ≡ false
-accepted_at c t f n fine e axes count =
-    (λ i. is_bad_variations t (axes i) (count i)) ∙ accepted_some c t fine.accepted e
 
 -- the data of all glyphs are no longer than the table
 data_short : (c : Tables) (o : Option (List ℕ)) → c GVAR ≡ o → is_bad_variations_in c ≡ false
@@ -134,12 +140,12 @@ data_short c (Some t) e ok =
     kept_data_small t (c FVAR) (glyph_count c) (λ _. true) (accepted_some c t ok e) in
     subst (λ (x : List ℕ). length (concat (listed_data (data_of x) (glyph_count c))) ≤ length t) (sym table) all
 
-data_in_table : (c : Tables) → HasFineGvar c
+data_in_table : (c : Tables) → IsFine GVAR c
     → length (concat (listed_data (variation_data c) (glyph_count c))) ≤ length (table_in_slot c GVAR)
-data_in_table c fine = data_short c (c GVAR) refl fine.accepted
+data_in_table c fine = data_short c (c GVAR) refl (good_gvar c fine)
 
 -- so those of two contents with as many glyphs fit into a table
-pub either_fits : (C D : Content) → HasFineGvar C.copied → HasFineGvar D.copied
+pub either_fits : (C D : Content) → IsFine GVAR C.copied → IsFine GVAR D.copied
     → glyph_count C.copied ≡ glyph_count D.copied
     → length (concat (listed_data (either_data C D) (glyph_count C.copied))) ≤ MAX_FILE + MAX_FILE
 either_fits C D first second count =
@@ -211,7 +217,7 @@ place_fits t shared m tuples short low =
     let size : length shared ≡ length (shared_tuples_of t) = ap length tuples in
     omega arith
 
-pub short_at : (c : Tables) (v : List ℕ × ℕ) → opened_gvar c ≡ Some v → HasFineGvar c → length v.0 ≤ MAX_FILE
+pub short_at : (c : Tables) (v : List ℕ × ℕ) → opened_gvar c ≡ Some v → IsFine GVAR c → length v.0 ≤ MAX_FILE
 short_at c v e fine =
     let there : table_in_slot c GVAR ≡ v.0 = ap (λ (o : Option (List ℕ)). unwrap_or o []) (opened_some c v e).0 in
     subst (λ (t : List ℕ). length t ≤ MAX_FILE) there fine.short
@@ -343,3 +349,120 @@ data_end K gvar listed to n count past are =
 pub map_repeated : {X : Type 0} (f : X → List ℕ) (n : ℕ) (x : X) → map f (replicate n x) ≡ replicate n (f x)
 map_repeated f zero x = refl
 map_repeated f (suc n) x = ap (λ (l : List (List ℕ)). f x ∷ l) (map_repeated f n x)
+
+-- what is refused of a `gvar`
+pub bad_gvar : (c : Tables) (t : List ℕ) (f : Option (List ℕ)) (n : ℕ) (bad : Bool) → Some t ≡ c GVAR → f ≡ c FVAR
+    → n ≡ glyph_count c → is_bad_variations t f n ≡ bad → is_bad_in GVAR c ≡ bad
+unfolding context glyph_count
+bad_gvar c t f n bad there axes count is =
+    ap (λ o. option_map_or (λ gvar. is_bad_variations gvar (c FVAR) (glyph_count c)) o false) (sym there)
+    ∙ sym (λ i. is_bad_variations t (axes i) (count i)) ∙ is
+
+pub no_gvar : (c : Tables) → None ≡ c GVAR → is_bad_in GVAR c ≡ false
+no_gvar c none = ap (λ (o : Option (List ℕ)). option_map_or (is_bad_at GVAR (context c)) o false) (sym none)
+
+pub opened_at : (c : Tables) (t : List ℕ) (n : ℕ) (v : List ℕ × ℕ) → Some t ≡ c GVAR → n ≡ glyph_count c → v ≡ (t, n)
+    → Some v ≡ opened_gvar c
+opened_at c t n v there count is =
+    ap Some (is ∙ ap (λ (m : ℕ). (t, m)) count) ∙ ap (option_map (λ (x : List ℕ). (x, glyph_count c))) there
+
+pub opened_nowhere : (c : Tables) → None ≡ c GVAR → None ≡ opened_gvar c
+opened_nowhere c none = ap (option_map (λ (x : List ℕ). (x, glyph_count c))) none
+
+-- variation data in the words of divided tables
+pub gvar_framed : (c : Tables) → option_map (gvar_with (λ _. []) (glyph_count c)) (c GVAR)
+    ≡ frames (alone variations) c GVAR
+unfolding frames variations
+gvar_framed c = sym (λ i. option_map (gvar_with (λ _. []) (count-context c i)) (c GVAR))
+
+pub gvar_parts_are : (c : Tables) (v : OpenVariations) → AreVariationsOf c v
+    → ArePartsIn variations GVAR c (variations_parts v)
+gvar_parts_are c v is = record {
+  count_is = is.count_is;
+  parts_are = λ g low. ap (λ o. data_in o g) is.gvar_is ∙ data_opened c g
+      ∙ sym (part-data c g (subst (λ (n : ℕ). g < n) is.count_is low))
+      ∙ parts_of-alike by_variations (alone variations) c GVAR refl g;
+}
+
+module _ (K : Content) where
+  pub gvar_kept : (t : List ℕ) (f : Option (List ℕ)) → K.copied GVAR ≡ Some t
+      → is_bad_variations t f (glyph_count K.copied) ≡ false
+      → Some (gvar_with (λ g. cond (is_some (K.outline g)) (data_of t g) []) (glyph_count K.copied) t)
+      ≡ (reduced (alone variations) K).copied GVAR
+  unfolding reduced variations context glyph_count
+  gvar_kept t f e ok = sym (ap (option_map _) e ∙ ap Some (gvar_with-again _ (λ _. []) (glyph_count K.copied) t f ok))
+
+  pub gvar_missing : K.copied GVAR ≡ None → K.copied GVAR ≡ (reduced (alone variations) K).copied GVAR
+  unfolding reduced
+  gvar_missing e = e ∙ sym (ap (option_map _) e)
+
+-- a `gvar` is made of the data of the glyphs that there are
+gvar_with-same : (f g : ℕ → List ℕ) (n : ℕ) → ((j : ℕ) → j < n → f j ≡ g j) → gvar_with f n ≡ gvar_with g n
+unfolding gvar_bytes
+gvar_with-same f g n same =
+    let listed = listed_same f g 0 n (λ j low. same j (omega arith)) in
+    λ i. λ table. let shared : List ℕ = shared_tuples_of table in
+    front_of table ++ (u32_bytes (tuples_at n) ++ (u16_bytes n ++ (u16_bytes 1 ++ (u32_bytes (data_at shared n)
+    ++ (offset_bytes (listed i) ++ (shared ++ concat (listed i)))))))
+
+-- so a union has a `gvar` that is made of the data of both
+module _ (C E : Content) (c : Tables) (P Q : ℕ → List ℕ) (are : AreJoinable variations GVAR C E c P Q) where
+  abbrev n : ℕ
+  n = glyph_count c
+
+  abbrev R : ℕ → List ℕ
+  R g = cond (is_some (C.outline g)) (P g) (Q g)
+
+  count_first : glyph_count C.copied ≡ n
+  count_first = sym (count-context C.copied) ∙ ap glyph_count are.context_first ∙ count-context c
+
+  there : (D : Content) (S : ℕ → List ℕ) (f : List ℕ) → c GVAR ≡ Some f
+      → D.copied GVAR ≡ option_map (λ frame. variations.whole (context c) frame S) (c GVAR)
+      → D.copied GVAR ≡ Some (gvar_with S n f)
+  unfolding variations
+  there D S f e is = is ∙ ap (option_map (λ frame. gvar_with S (glyph_count (context c)) frame)) e
+      ∙ ap (λ (m : ℕ). Some (gvar_with S m f)) (count-context c)
+
+  module _ (f : List ℕ) (e : c GVAR ≡ Some f) where
+    good : is_bad_variations f (c FVAR) n ≡ false
+    unfolding context glyph_count
+    good = are.frame_good f e
+
+    data_at_glyph : (D : Content) (S : ℕ → List ℕ) → D.copied GVAR ≡ Some (gvar_with S n f) → (g : ℕ) → g < n
+        → variation_data D.copied g ≡ S g
+    unfolding variation_data
+    data_at_glyph D S is g low =
+        ap (λ (o : Option (List ℕ)). data_of (unwrap_or o []) g) is
+        ∙ (made_read (front_of f) (shared_tuples_of f) S n (parts_fit f (c FVAR) n good)).data_is g low
+
+    first : C.copied GVAR ≡ Some (gvar_with P n f)
+    first = there C P f e are.first
+
+    second : E.copied GVAR ≡ Some (gvar_with Q n f)
+    second = there E Q f e are.second
+
+    united_some : united_gvar C E ≡ Some (gvar_with R n f)
+    united_some =
+        (λ i. option_map (gvar_with (either_data C E) (count_first i)) (first i))
+        ∙ ap Some (gvar_with-again (either_data C E) P n f (c FVAR) good
+        ∙ ap (λ w. w f) (gvar_with-same (either_data C E) R n
+        (λ g low. (λ i. cond (is_some (C.outline g)) (data_at_glyph C P first g low i)
+        (data_at_glyph E Q second g low i)))))
+
+  united_by : (o : Option (List ℕ)) → c GVAR ≡ o → made_or_laid (united_gvar C E) (C.copied GVAR)
+      (table_in_slot E.copied GVAR) ≡ option_map (λ frame. variations.whole (context c) frame R) (c GVAR)
+  unfolding variations
+  united_by None e =
+      let none : C.copied GVAR ≡ None = are.first ∙ ap (option_map _) e in
+      (λ i. made_or_laid (option_map (gvar_with (either_data C E) (glyph_count C.copied)) (none i)) (none i)
+      (table_in_slot E.copied GVAR)) ∙ sym (ap (option_map _) e)
+  united_by (Some f) e =
+      (λ i. made_or_laid (united_some f e i) (C.copied GVAR) (table_in_slot E.copied GVAR))
+      ∙ sym (ap (option_map (λ frame. gvar_with R (glyph_count (context c)) frame)) e
+      ∙ ap (λ (m : ℕ). Some (gvar_with R m f)) (count-context c))
+
+pub gvar_united : (C E : Content) (made : Option (List ℕ)) → made ≡ united_gvar C E
+    → IsUnionOf variations GVAR C E made
+gvar_united C E made is = λ c P Q are.
+    ap (λ m. made_or_laid m (C.copied GVAR) (table_in_slot E.copied GVAR)) is
+    ∙ united_by C E c P Q are (c GVAR) refl

@@ -1,1 +1,4 @@
-pub mod Open
+pub mod PartedTable
+pub mod OpenMetrics
+pub mod OpenVariations
+pub mod DividedTables

@@ -1,13 +1,13 @@
 //! The tables that are divided into a frame, which is of no single glyph, and parts of glyphs: which glyphs have parts,
-//! whether two tables have the same, and the tables of frames, of cuts and of unions.
+//! whether two tables have the same, and the tables of frames, of cuts and of unions. One table is a `PartedTable`, and all
+//! of them are listed in `all_tables`.
 #![tactic(auto)]
 
-mod made_tables;
+mod all_tables;
+mod glyph_variations;
 mod metrics;
-mod open_tables;
-mod post;
-mod variation_data;
+mod names;
+mod parted_table;
 
-pub use crate::made_tables::MadeTables;
-pub use crate::open_tables::OpenTables;
-pub use crate::variation_data::{gvar_of_both, open_variations};
+pub use crate::all_tables::{MadeTables, OpenTables};
+pub use crate::parted_table::{OpenFrom, PartedTable, TablesBySlot};

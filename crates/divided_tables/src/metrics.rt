@@ -1,5 +1,4 @@
-//! Tables of metrics: which glyphs have metrics of their own, whether two tables have the same, and the tables of frames,
-//! of cuts and of unions. OpenType 1.9, hmtx; vmtx.
+//! Tables of metrics, in which a glyph has an advance and a bearing of its own, or a bearing alone. OpenType 1.9, hmtx; vmtx.
 ghost use Rattle.std.specs.Prelude.{◌≡◌, ◌+◌, ◌*◌, ◌<◌, ◌≤◌, ◌∷◌, [], ℕ, is_some, length, nat_lt, option_copied, replicate, slice_index, unwrap_or, if◌then◌else◌, ◌||◌, IfOk, IsTrue, OnErr, false};
 ghost use Rattle.std.specs.Option.{option_map, option_or};
 ghost use Rattle.std.specs.Str.{bytes_eq};
@@ -7,16 +6,16 @@ ghost use Rattle.sfnt_bytes.specs.Memory.{IsRefused};
 ghost use Rattle.font_tables.specs.Fields.{number_of_h_metrics};
 ghost use Rattle.font_tables.specs.Refusals.{is_bad_hhea, is_bad_hmtx};
 ghost use Rattle.font_theory.specs.Content.{glyph_count};
-ghost use Rattle.font_theory.specs.Parted.{bare, blank, cleared, either_bytes, entry_at, entry_size, metric_bytes, pairs_in};
+ghost use Rattle.font_theory.specs.Parted.{bare, blank, cleared, either_bytes, entry_start, entry_size, metric_bytes, pairs_in};
 ghost use Rattle.font_theory.specs.Parting.{Tables};
 ghost use Rattle.font_write.specs.declared.source.TheConstants.{MAX_TABLE};
-ghost use Rattle.divided_tables.specs.Open.{AreCopied, IsMetricsIn, has_metrics, own_metrics};
+ghost use Rattle.divided_tables.specs.OpenMetrics.{AreCopied, own_metrics};
 
+use crate::parted_table::{OpenFrom, PartedTable, TablesBySlot};
 use font_tables::{has_bad_hhea, has_bad_hmtx, read_number_of_h_metrics};
 use font_write::Source;
-use sfnt_bytes::{Memory, NoMemory};
-use std::alloc::Allocator;
-use std::marker::Model;
+use sfnt_bytes::{HHEA, HMTX, Memory, NoMemory, VHEA, VMTX};
+use std::marker::{Model, PhantomData};
 
 /// The length of a pair of an advance and a bearing.
 const PAIR: usize = 4;
@@ -50,12 +49,12 @@ struct Entry {
 }
 
 // Returns the entry of glyph g in a table of this number of pairs, and then bearings.
-#[tactic(auto, unfolding(font_theory::specs::Parted::entry_at, font_theory::specs::Parted::entry_size))]
+#[tactic(auto, unfolding(font_theory::specs::Parted::entry_start, font_theory::specs::Parted::entry_size))]
 fn entry_of(pairs: usize, g: usize) -> Entry
     requires some { 0 < pairs }
     requires few { pairs < 65536 }
     requires glyph { g < 65536 }
-    ensures at { result.at ≡ entry_at pairs g }
+    ensures at { result.at ≡ entry_start pairs g }
     ensures size { result.size ≡ entry_size pairs g }
     ensures two { HALF ≤ result.size }
 {
@@ -120,7 +119,7 @@ fn four_of(bytes: &[u8], pairs: usize, g: usize) -> Four
     requires some { 0 < pairs }
     requires few { pairs < 65536 }
     requires glyph { g < 65536 }
-    requires room { entry_at pairs g + entry_size pairs g ≤ length bytes.now }
+    requires room { entry_start pairs g + entry_size pairs g ≤ length bytes.now }
     ensures { result.first ∷ result.second ∷ result.third ∷ result.fourth ∷ [] ≡ metric_bytes pairs bytes.now g }
 {
     let entry = entry_of(pairs, g);
@@ -173,17 +172,87 @@ fn are_zero(bytes: &[u8], pairs: usize, from: usize, to: usize) -> bool
     false
 }
 
+/// Which table of metrics: the slots of its header, and of the table itself.
+pub trait Way {
+    ghost use Rattle.std.specs.Prelude.{◌≡◌, ℕ, false};
+    ghost use Rattle.sfnt_bytes.specs.Directory.{is_layout_slot};
+    ghost use Rattle.font_theory.specs.Parting.{may_divide};
+
+    ghost HEADER: { ℕ };
+
+    ghost SLOT: { ℕ };
+
+    /// The header is read of tables that are not divided.
+    ghost header_whole: { may_divide HEADER ≡ false };
+
+    /// Neither is a table of layout.
+    ghost header_plain: { is_layout_slot HEADER ≡ false };
+
+    ghost slot_plain: { is_layout_slot SLOT ≡ false };
+
+    /// The slot of the header.
+    const HEADER: usize;
+
+    /// The slot of the table.
+    const SLOT: usize;
+}
+
+/// Metrics along a line, of `hmtx`.
+pub struct Across;
+
+impl Way for Across {
+    ghost use Rattle.std.specs.Prelude.{refl};
+    ghost use Rattle.sfnt_bytes.specs.declared.tag.TheConstants.{HHEA as HHEA_SLOT, HMTX as HMTX_SLOT};
+
+    ghost HEADER = { HHEA_SLOT };
+
+    ghost SLOT = { HMTX_SLOT };
+
+    ghost header_whole = { refl };
+
+    ghost header_plain = { refl };
+
+    ghost slot_plain = { refl };
+
+    const HEADER: usize = HHEA;
+
+    const SLOT: usize = HMTX;
+}
+
+/// Metrics down a column, of `vmtx`.
+pub struct Down;
+
+impl Way for Down {
+    ghost use Rattle.std.specs.Prelude.{refl};
+    ghost use Rattle.sfnt_bytes.specs.declared.tag.TheConstants.{VHEA as VHEA_SLOT, VMTX as VMTX_SLOT};
+
+    ghost HEADER = { VHEA_SLOT };
+
+    ghost SLOT = { VMTX_SLOT };
+
+    ghost header_whole = { refl };
+
+    ghost header_plain = { refl };
+
+    ghost slot_plain = { refl };
+
+    const HEADER: usize = VHEA;
+
+    const SLOT: usize = VMTX;
+}
+
 /// A table of metrics, empty where there is none, and the number of its pairs.
 #[derive(Drop)]
-pub struct Metrics<'t> {
+pub struct Metrics<'t, W: Way> {
     bytes: &'t [u8],
     pairs: usize,
     count: u16,
+    way: PhantomData<W>,
 }
 
 // Its value is the number of its pairs, that of the glyphs, and its bytes.
-impl<'t> Model for Metrics<'t> {
-    ghost use Rattle.divided_tables.specs.Open.{HasEntries, OpenMetrics};
+impl<'t, W: Way> Model for Metrics<'t, W> {
+    ghost use Rattle.divided_tables.specs.OpenMetrics.{HasEntries, OpenMetrics};
 
     ghost Value = { OpenMetrics };
 
@@ -200,33 +269,7 @@ impl<'t> Model for Metrics<'t> {
     }) };
 }
 
-impl<'t> Metrics<'t> {
-    /// Opens a table of metrics of so many glyphs, by its header.
-    pub(crate) fn open(header: Option<&[u8]>, table: Option<&'t [u8]>, count: u16) -> Metrics<'t>
-        ensures table { (copied : Tables) (h slot : ℕ) → option_copied header.entry ≡ copied h →
-            option_copied table.entry ≡ copied slot → count ≡ glyph_count copied → IsMetricsIn copied h slot result }
-        ensures count { result.count ≡ count }
-    {
-        let bytes = table.unwrap_or(&[]);
-        let pairs = pairs_by(header.unwrap_or(&[]), bytes, count);
-        Metrics {
-            bytes,
-            pairs,
-            count,
-        }
-    }
-
-    /// Opens the table of metrics of a slot of a content.
-    pub(crate) fn of<S: Source>(source: &'t S, header: usize, slot: usize) -> Metrics<'t>
-        ensures { IsMetricsIn (S.content_of source.entry.now).copied header slot result }
-    {
-        Metrics::open(
-            source.copied(header),
-            source.copied(slot),
-            source.glyph_count(),
-        )
-    }
-
+impl<'t, W: Way> Metrics<'t, W> {
     // Returns the bytes of a glyph alone.
     fn four(&self, g: u16) -> Four
         requires { g < self.now.count }
@@ -237,31 +280,19 @@ impl<'t> Metrics<'t> {
         }
         four_of(self.bytes, self.pairs, usize::from(g))
     }
+}
 
-    /// Tells whether a glyph has metrics of its own that are not all 0.
-    pub(crate) fn has(&self, g: u16) -> bool
-        requires { g < self.now.count }
-        ensures { result ≡ has_metrics self.now g }
-    {
-        self.four(g).has_some()
-    }
-
-    /// Tells whether a glyph has the same metrics of its own in another table.
-    pub(crate) fn is_same(&self, other: &Metrics<'_>, g: u16) -> bool
-        requires first { g < self.now.count }
-        requires second { g < other.now.count }
-        ensures { result ≡ bytes_eq (own_metrics self.now g) (own_metrics other.now g) }
-    {
-        self.four(g).is_same(&other.four(g))
-    }
-
-    /// Tells whether some glyphs, from one on and below another, surely have none. It is quick for most glyphs of a cut.
-    pub(crate) fn has_none(&self, from: u16, to: u16) -> bool
-        requires order { from < to }
-        requires within { to ≤ self.now.count }
-        ensures { IsTrue result → (g : ℕ) → from ≤ g → g < to → has_metrics self.now g ≡ false }
-    {
-        are_zero(self.bytes, self.pairs, usize::from(from), usize::from(to))
+impl<'t, W: Way, B: TablesBySlot<'t>> OpenFrom<'t, B> for Metrics<'t, W> {
+    fn open(tables: &B) -> Option<Metrics<'t, W>> {
+        let count = tables.glyph_count();
+        let bytes = tables.table(W::SLOT).unwrap_or(&[]);
+        let pairs = pairs_by(tables.table(W::HEADER).unwrap_or(&[]), bytes, count);
+        Some(Metrics {
+            bytes,
+            pairs,
+            count,
+            way: PhantomData,
+        })
     }
 }
 
@@ -280,8 +311,8 @@ fn copy_entry(to: &mut [u8], from: &[u8], pairs: usize, g: usize)
     requires few { pairs < 65536 }
     requires glyph { g < 65536 }
     requires same { length to.old ≡ length from.now }
-    requires room { entry_at pairs g + entry_size pairs g ≤ length from.now }
-    ensures { AreCopied from.now (entry_at pairs g) (entry_size pairs g) to.old to.new }
+    requires room { entry_start pairs g + entry_size pairs g ≤ length from.now }
+    ensures { AreCopied from.now (entry_start pairs g) (entry_size pairs g) to.old to.new }
 {
     let entry = entry_of(pairs, g);
     if entry.size == PAIR {
@@ -342,13 +373,9 @@ fn cleared_table<S: Source, A: Memory>(
     Ok(bytes)
 }
 
-/// Returns a table of metrics of a content with zeros for the glyphs that are not kept. Where there is none, or its
-/// header does not describe it, a cut has that of the content, and none is returned.
-///
-/// # Errors
-///
-/// `NoMemory` if out of memory.
-pub(crate) fn kept_metrics<S: Source, A: Memory>(
+// Returns a table of metrics of a content with zeros for the glyphs that are not kept. Where there is none, or its
+// header does not describe it, a cut has that of the content, and none is returned.
+fn kept_metrics<S: Source, A: Memory>(
     alloc: A,
     source: &S,
     header: usize,
@@ -398,13 +425,9 @@ fn blank_table<A: Memory>(
     Ok(blank)
 }
 
-/// Returns a table of metrics of a content with zeros for the bytes of each glyph. Where its header does not describe it,
-/// that is all of it.
-///
-/// # Errors
-///
-/// `NoMemory` if out of memory.
-pub(crate) fn metrics_frame<S: Source, A: Memory>(
+// Returns a table of metrics of a content with zeros for the bytes of each glyph. Where its header does not describe it,
+// that is all of it.
+fn metrics_frame<S: Source, A: Memory>(
     alloc: A,
     source: &S,
     header: usize,
@@ -427,32 +450,60 @@ pub(crate) fn metrics_frame<S: Source, A: Memory>(
     }
 }
 
-// Lays a table over another: each byte becomes the bitwise or of both, which is the other's if one is 0. Not inlined:
-// alone, its loop takes many bytes at once.
-#[inline(never)]
-fn lay_over(first: &mut [u8], second: &[u8])
-    ensures { first.new ≡ either_bytes first.old second.now }
-{
-    let count = first.len().min(second.len());
-    for j in 0..count {
-        first[j] = first[j] | second[j];
-    }
-}
+impl<'t, W: Way> PartedTable for Metrics<'t, W> {
+    ghost use Rattle.std.specs.Prelude.{false};
+    ghost use Rattle.font_theory.specs.Parted.{metrics};
+    ghost use Rattle.divided_tables.specs.OpenMetrics.{IsMetricsIn, metrics_parts};
 
-/// Returns a table with another laid over it, none where the first is missing.
-pub(crate) fn either_table<A: Allocator>(
-    first: Option<Vec<u8, A>>,
-    second: Option<&[u8]>,
-) -> Option<Vec<u8, A>>
-    ensures { option_map (λ v. v.items) result
-        ≡ option_map (λ t. either_bytes t (unwrap_or (option_copied second.entry) []))
-        (option_map (λ v. v.items) first) }
-{
-    match first {
-        None => None,
-        Some(mut table) => {
-            lay_over(&mut table, second.unwrap_or(&[]));
-            Some(table)
-        }
+    ghost slot = { W.SLOT };
+
+    ghost parting = { metrics W.HEADER };
+
+    ghost refuses = { λ _. false };
+
+    ghost is_open = { λ copied m. IsMetricsIn copied W.HEADER W.SLOT m };
+
+    ghost parts_in = { metrics_parts };
+
+    fn has(&self, g: u16) -> bool {
+        self.four(g).has_some()
+    }
+
+    fn has_none(&self, from: u16, to: u16) -> bool {
+        are_zero(self.bytes, self.pairs, usize::from(from), usize::from(to))
+    }
+
+    fn is_same(&self, other: &Metrics<'t, W>, g: u16) -> bool {
+        self.four(g).is_same(&other.four(g))
+    }
+
+    fn frame<S: Source, A: Memory + Copy>(
+        &self,
+        alloc: A,
+        source: &S,
+    ) -> Result<Option<Vec<u8, A>>, NoMemory> {
+        metrics_frame(alloc, source, W::HEADER, W::SLOT)
+    }
+
+    fn kept<S: Source, A: Memory + Copy>(
+        &self,
+        alloc: A,
+        source: &S,
+    ) -> Result<Option<Vec<u8, A>>, NoMemory> {
+        kept_metrics(alloc, source, W::HEADER, W::SLOT)
+    }
+
+    fn united<K: Source, L: Source, A: Memory + Copy>(
+        &self,
+        other: &Metrics<'t, W>,
+        alloc: A,
+        first: &K,
+        second: &L,
+    ) -> Result<Option<Vec<u8, A>>, NoMemory> {
+        let _other = other;
+        let _alloc = alloc;
+        let _first = first;
+        let _second = second;
+        Ok(None)
     }
 }

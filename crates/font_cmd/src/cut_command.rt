@@ -232,13 +232,14 @@ fn all_kept<'a, F: HeldFiles, I: Read + Copy + Drop, O>(
 // Reads a font into memory, without the tables that a line drops.
 fn held_file<'a, F: HeldFiles, I, O, R: Read>(
     system: &System<'a, F, I, O>,
+    kind: Kind,
     line: &Subset<'a>,
     inlet: &mut Inlet<R>,
 ) -> Result<Vec<u8>, CommandError<'a>>
     requires { inlet_fresh_of inlet.old ≡ true }
 {
     let whole = read_inlet(system.alloc, inlet, line.font)?;
-    keep_font(system, line, &whole)?;
+    keep_font(system, kind, line, &whole)?;
     without_named(system.alloc, line.font, whole, &line.dropped)
 }
 
@@ -256,6 +257,6 @@ pub(crate) fn subset<'a, F: HeldFiles, I: Read + Copy + Drop, O: Write + Copy + 
     let choice = Choice::of(system.alloc, line)?;
     let mut inlet = inlet_at(system, line.font)?;
     let (kept, numbers) = all_kept(system, line, choice)?;
-    let file = held_file(system, line, &mut inlet)?;
+    let file = held_file(system, kind, line, &mut inlet)?;
     cut_file(system, kind, line, &file, kept, &numbers)
 }

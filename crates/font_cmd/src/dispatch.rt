@@ -13,7 +13,7 @@ use crate::outcome::{Outcome, answered, ended, print, report, say};
 use crate::paths::inputs::inlet_at;
 use crate::show_command::show;
 use crate::slice_command::slice;
-use command_line::{CutKind, Line, LineError, Task, Verbosity, is_quiet, parse};
+use command_line::{CutKind, Line, Parsed, Task, Verbosity, is_quiet, parse};
 use commands::{run_check, run_codes, run_glyphs};
 use font_theory::Kind;
 use program_files::{HeldFiles, Reason, System};
@@ -159,13 +159,12 @@ where
 {
     let alloc = system.alloc;
     match parse(alloc, words) {
-        Ok(line) => {
+        Ok(Parsed::Line(line)) => {
             let outcome = done(system, &line, out);
             told(system, line.verbosity, outcome, err)
         }
-        Err(LineError::NoMemory) => report(alloc, err, no_memory(), NO_DETAILS),
-        Err(LineError::InputTwice) => report(alloc, err, CommandError::InputTwice, NO_DETAILS),
-        Err(LineError::Help(text)) => {
+        Ok(Parsed::InputTwice) => report(alloc, err, CommandError::InputTwice, NO_DETAILS),
+        Ok(Parsed::Help(text)) => {
             let verbosity = if is_quiet(words) {
                 Verbosity::Quiet
             } else {
@@ -173,10 +172,11 @@ where
             };
             told(system, verbosity, print(out, text.as_str()), err)
         }
-        Err(LineError::Words(text)) => {
+        Ok(Parsed::Wrong(text)) => {
             let _said = say(err, text.as_str());
             2
         }
+        Err(_) => report(alloc, err, no_memory(), NO_DETAILS),
     }
 }
 

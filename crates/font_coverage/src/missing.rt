@@ -6,7 +6,7 @@ use font_texts::{Shown, shown_character};
 use std::alloc::{AllocError, Global};
 
 // How many characters are named.
-const NAMED: u32 = 5;
+const NAMED: usize = 5;
 
 // The codes that nobody misses, since no glyph stands for them: control characters, spaces (White_Space) and those that
 // are ignored by default (Default_Ignorable_Code_Point), selectors of variations among them. Unicode, UnicodeData.txt,
@@ -45,57 +45,29 @@ fn is_unseen(code: u32) -> bool {
     false
 }
 
-// The characters that a font does not map: how many they are, the first of them, and the names of some.
+// The characters that a font does not map: how many they are, and the first of them.
+#[derive(Clone, Copy)]
 struct Missing {
     count: u32,
-    first: u32,
-    names: String,
-}
-
-// Written out, so that it is proved once.
-impl Drop for Missing {
-    fn drop(self) {
-        let Missing {
-            count: _,
-            first: _,
-            names: _names,
-        } = self;
-    }
+    first: [u32; NAMED],
 }
 
 impl Missing {
-    // Adds the name of a character after those of others.
-    fn add_name(&mut self, code: u32) -> Result<(), AllocError> {
-        if !self.names.is_empty() {
-            self.names.push_str(", ")?;
-        }
-        write!(self.names, "U+{code:X}")?;
-        if let Some(letter) = shown_character(code) {
-            write!(self.names, " {letter}")?;
-        }
-        Ok(())
-    }
-
     // Counts a character.
-    fn add(&mut self, code: u32) -> Result<(), AllocError> {
-        if self.count == 0 {
-            self.first = code;
-        }
-        if self.count < NAMED {
-            self.add_name(code)?;
+    fn add(&mut self, code: u32) {
+        if let Some(place) = self.first.get_mut(self.count as usize) {
+            *place = code;
         }
         self.count = self.count.saturating_add(1);
-        Ok(())
     }
 
     // Counts the characters of a range that a font does not map.
-    fn add_range(&mut self, chart: &Chart<'_>, range: CodeRange) -> Result<(), AllocError> {
+    fn add_range(&mut self, chart: &Chart<'_>, range: CodeRange) {
         for code in range.first..=range.last {
             if chart.glyph(code) == 0 && !is_unseen(code) {
-                self.add(code)?;
+                self.add(code);
             }
         }
-        Ok(())
     }
 
     // Returns those of a set that a font does not map.
@@ -105,8 +77,7 @@ impl Missing {
         };
         let mut missing = Missing {
             count: 0,
-            first: 0,
-            names: String::new(alloc),
+            first: [0; NAMED],
         };
         let mut from: u32 = 0;
         // No set has more ranges than there are codes.
@@ -115,9 +86,24 @@ impl Missing {
                 break;
             };
             from = range.last.saturating_add(1);
-            missing.add_range(&chart, range)?;
+            missing.add_range(&chart, range);
         }
         Ok(missing)
+    }
+
+    // Returns the names of the first of them.
+    fn names(&self, alloc: Global) -> Result<String, AllocError> {
+        let mut names = String::new(alloc);
+        for &code in self.first.iter().take(self.count as usize) {
+            if !names.is_empty() {
+                names.push_str(", ")?;
+            }
+            write!(names, "U+{code:X}")?;
+            if let Some(letter) = shown_character(code) {
+                write!(names, " {letter}")?;
+            }
+        }
+        Ok(names)
     }
 }
 
@@ -132,7 +118,7 @@ pub(crate) fn missing_count(
     wanted: &Wanted,
 ) -> Result<(u32, u32), AllocError> {
     let missing = Missing::of(alloc, font, wanted)?;
-    Ok((missing.count, missing.first))
+    Ok((missing.count, missing.first[0]))
 }
 
 /// Adds a line that counts the characters of texts that a font does not map, and names the first of them, where there are
@@ -151,19 +137,23 @@ pub(crate) fn add_missing(
         return Ok(());
     }
     let missing = Missing::of(alloc, font, texts)?;
-    let (count, names) = (missing.count, missing.names.as_str());
-    let name = Shown(name);
-    match count {
-        0 => {}
-        1 => write!(text, "fontcut: {name} lacks a wanted character: {names}\n")?,
-        2..=NAMED => write!(
+    let (name, count) = (Shown(name), missing.count);
+    if count == 0 {
+        return Ok(());
+    }
+    let names = missing.names(alloc)?;
+    if count == 1 {
+        write!(text, "fontcut: {name} lacks a wanted character: {names}\n")?;
+    } else if count as usize <= NAMED {
+        write!(
             text,
             "fontcut: {name} lacks {count} wanted characters: {names}\n"
-        )?,
-        _ => write!(
+        )?;
+    } else {
+        write!(
             text,
             "fontcut: {name} lacks {count} wanted characters, such as {names}\n"
-        )?,
+        )?;
     }
     Ok(())
 }

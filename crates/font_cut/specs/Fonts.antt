@@ -18,7 +18,7 @@ pub use Rattle.font_map.specs.Cmap.{chosen_of}
 pub use Rattle.font_map.specs.Mapping.{mapping_of}
 pub use Rattle.codes.specs.Wanted.{member}
 pub use Rattle.font_file.specs.Font.{cmap_of, font_fault, map_of}
-pub use Rattle.font_file.specs.Text.{error_number, error_text}
+pub use Rattle.font_file.specs.Text.{font_error_number, font_error_text}
 pub use Rattle.font_file.specs.declared.font_error.FontError.{FontError}
 pub use Rattle.font_theory.specs.Cut.{Format, cut}
 pub use Rattle.font_theory.specs.Kinds.{fault_of, format_of}

@@ -9,19 +9,19 @@ use Rattle.font_file.specs.declared.font_error.FontError.TheVariants.{BadGlyph, 
 use Rattle.font_file.specs.declared.font_error.FontError.TheVariants.{Mapping, Tables}
 
 -- the text of a refusal of a font
-abbrev pub error_text : FontError → List ℕ
-error_text (Directory error) = directory.error_text error
-error_text (Tables error) = tables.error_text error
-error_text (Mapping error) = mapping.error_text error
-error_text (BadGlyph g) = codes "bad glyph " ++ decimal g
-error_text BadLayout = codes "bad layout"
-error_text BadVariations = codes "bad variations"
+abbrev pub font_error_text : FontError → List ℕ
+font_error_text (Directory error) = directory.error_text error
+font_error_text (Tables error) = tables.table_error_text error
+font_error_text (Mapping error) = mapping.map_error_text error
+font_error_text (BadGlyph g) = codes "bad glyph " ++ decimal g
+font_error_text BadLayout = codes "bad layout"
+font_error_text BadVariations = codes "bad variations"
 
 -- its number
-abbrev pub error_number : FontError → ℕ
-error_number (Directory error) = directory.error_number error
-error_number (Tables error) = tables.error_number error
-error_number (Mapping error) = mapping.error_number error
-error_number (BadGlyph g) = glyph.fault_number
-error_number BadLayout = 27
-error_number BadVariations = 28
+abbrev pub font_error_number : FontError → ℕ
+font_error_number (Directory error) = directory.error_number error
+font_error_number (Tables error) = tables.table_error_number error
+font_error_number (Mapping error) = mapping.map_error_number error
+font_error_number (BadGlyph g) = glyph.fault_number
+font_error_number BadLayout = 27
+font_error_number BadVariations = 28

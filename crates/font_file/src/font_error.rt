@@ -1,6 +1,6 @@
 //! Why a file is no font that is accepted.
 ghost use Rattle.std.specs.Prelude.{◌≡◌, Some};
-ghost use Rattle.font_file.specs.Text.{error_number, error_text};
+ghost use Rattle.font_file.specs.Text.{font_error_number, font_error_text};
 ghost use Rattle.font_file.specs.declared.font_error.FontError.TheVariants.{Directory as InDirectory, Mapping as InMapping, Tables as InTables};
 
 use font_map::MapError;
@@ -30,7 +30,7 @@ pub enum FontError {
 impl FontError {
     /// Returns the number of the refusal: that of the error that it holds, or 17, 27 or 28.
     pub fn number(&self) -> u8
-        ensures { result ≡ error_number self.now }
+        ensures { result ≡ font_error_number self.now }
     {
         match self {
             FontError::Directory(error) => error.number(),
@@ -44,7 +44,7 @@ impl FontError {
 }
 
 impl fmt::Display for FontError {
-    ghost output = { λ error. Some (error_text error) };
+    ghost output = { λ error. Some (font_error_text error) };
 
     fn fmt<W: fmt::Write>(&self, f: &mut fmt::Formatter<W>) -> fmt::Result {
         match self {

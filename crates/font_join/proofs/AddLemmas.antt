@@ -4,7 +4,7 @@ use Rattle.std.proofs.Common.{ap}
 use Rattle.std.proofs.Common.{◌∙◌, arith}
 use Rattle.std.specs.List.{range_with_len}
 use Rattle.font_glyph.specs.RecordMap.{Records}
-use Rattle.font_theory.specs.Content.{content, everything, font_of, is_kept}
+use Rattle.font_theory.specs.Content.{content, everything, is_kept, plain_font}
 use Rattle.font_theory.specs.Cut.{content_of_all}
 use Rattle.font_theory.specs.Difference.{are_different}
 use Rattle.font_theory.specs.Agreement.{both}
@@ -32,23 +32,25 @@ nothing = []
 -- the content of two files, of which a join is made
 pub both_whole : (x y : List ℕ)
     → spelled_by Full (both (content_of_all (format_of Full) x) (content_of_all (format_of Full) y))
-    ≡ both (content (font_of x) everything) (content (font_of y) everything)
+    ≡ both (content (plain_font x) everything) (content (plain_font y) everything)
 unfolding full_settings format_by
 both_whole x y =
     (λ i. spelled_by Full (both (content (plain_font-full x i) everything) (content (plain_font-full y i) everything)))
     ∙ (λ i. record {
-      copied = undivided_spelled Full refl (both (content (font_of x) everything) (content (font_of y) everything)) i;
-      head = (font_of x).head;
-      map = (both (content (font_of x) everything) (content (font_of y) everything)).map;
-      outline = (both (content (font_of x) everything) (content (font_of y) everything)).outline;
+      copied = undivided_spelled Full refl
+          (both (content (plain_font x) everything) (content (plain_font y) everything)) i;
+      head = (plain_font x).head;
+      map = (both (content (plain_font x) everything) (content (plain_font y) everything)).map;
+      outline = (both (content (plain_font x) everything) (content (plain_font y) everything)).outline;
       parts = sym (parts-path (none_both x y)) i;
-      there = (both (content (font_of x) everything) (content (font_of y) everything)).there;
+      there = (both (content (plain_font x) everything) (content (plain_font y) everything)).there;
     })
   where
     none_both : (x y : List ℕ) (slot g : ℕ)
-        → (both (content (font_of x) everything) (content (font_of y) everything)).parts slot g ≡ []
-    none_both x y slot g = go (is_some ((content (font_of x) everything).outline g)) (is_kept (font_of x) everything g)
-        (is_kept (font_of y) everything g)
+        → (both (content (plain_font x) everything) (content (plain_font y) everything)).parts slot g ≡ []
+    none_both x y slot g = go (is_some ((content (plain_font x) everything).outline g))
+        (is_kept (plain_font x) everything g)
+        (is_kept (plain_font y) everything g)
       where
         go : (b u v : Bool) → cond b (cond u nothing nothing) (cond v nothing nothing) ≡ nothing
         go true true v = refl

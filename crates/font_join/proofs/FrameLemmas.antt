@@ -7,12 +7,12 @@ use Rattle.std.proofs.Math.Path.{fun_ext}
 use Rattle.std.proofs.lemmas.Bool.{cases_lt, le-leb, ne_eqb, or_right}
 use Rattle.std.proofs.lemmas.Slice.Eq.{bytes_eq-Decides}
 use Rattle.sfnt_bytes.specs.Lines.{first_of_lines}
-use Rattle.sfnt_bytes.specs.declared.tag.TheConstants.{ALL_SLOTS, GVAR, HEAD, MAXP}
+use Rattle.sfnt_bytes.specs.declared.tag.TheConstants.{ALL_SLOTS, HEAD, MAXP}
 use Rattle.font_tables.specs.Fields.{num_glyphs}
 use Rattle.font_theory.specs.Content.{Content, IsWritable, KeepsComponents, glyph_count, is_never_copied}
 use Rattle.font_theory.specs.Cut.{Arises}
 use Rattle.font_theory.specs.Difference.{is_different_code, is_different_table}
-use Rattle.font_theory.specs.Kinds.{by_variations, divides_tables, format_of, partition_of, read_by, settings}
+use Rattle.font_theory.specs.Kinds.{divides_tables, format_of, partition_of, read_by, settings}
 use Rattle.font_theory.specs.Kinds.{spelled_by}
 use Rattle.font_theory.specs.Kinds.Reading.{absent}
 use Rattle.font_theory.specs.Parting.{Partition, Tables, frames, wholes}
@@ -26,20 +26,21 @@ use Rattle.font_theory.proofs.PartLemmas.{frames-other, frames-wholes, glyph_cou
 use Rattle.font_theory.proofs.PartLemmas.{wholes-undivided}
 use Rattle.font_theory.proofs.PartedLemmas.{IsPartition-variations}
 use Rattle.font_theory.proofs.SettingsLemmas.{AreRead-by, IsDivided-by}
+use Rattle.divided_tables.specs.DividedTables.{finest}
 use Rattle.divided_tables.proofs.KindPartLemmas.{frames_as}
 use Rattle.font_join.specs.Inside.{early_difference}
 use Rattle.font_join.specs.KindInside.{SpellsIn, framed}
 
 -- there are as many glyphs by frames
-pub count_framed : (c : Tables) → glyph_count (frames by_variations c) ≡ glyph_count c
-count_framed c = glyph_count-alike c (frames by_variations c) (frames-other by_variations IsPartition-variations c)
+pub count_framed : (c : Tables) → glyph_count (frames finest c) ≡ glyph_count c
+count_framed c = glyph_count-alike c (frames finest c) (frames-other finest IsPartition-variations c)
 
 -- a content without what is of single glyphs in its tables can be written
 pub writable_framed : (K : Content) → IsWritable K → IsWritable (framed K)
 writable_framed K ok = record {
   mapped_below = λ c. subst (λ (n : ℕ). K.map c < n) (sym (count_framed K.copied)) (ok.mapped_below c);
   mapped_codes = ok.mapped_codes;
-  slots = λ slot never. frames-other by_variations IsPartition-variations K.copied slot (never-divided slot never)
+  slots = λ slot never. frames-other finest IsPartition-variations K.copied slot (never-divided slot never)
       ∙ ok.slots slot never;
   head_form = ok.head_form;
   head_size = ok.head_size;
@@ -68,12 +69,15 @@ module _ (k : Kind) (K : Content) where
         (IsDivided-by (settings k) (settings-are k) K arises).fit
         ∙ (IsDivided-by (settings k) (settings-are k) K arises).frames)
 
-    pub unread_spelled : (settings k).reading GVAR ≡ absent → w GVAR ≡ None
-    unfolding wholes
-    unread_spelled e = ap (option_map _) (sym (AreRead-by (settings k) (settings-are k) K arises GVAR)
-        ∙ ap (λ r. read_by r GVAR (K.copied GVAR)) e)
+    pub unread_whole : (slot : ℕ) → (settings k).reading slot ≡ absent → K.copied slot ≡ None
+    unread_whole slot e = sym (AreRead-by (settings k) (settings-are k) K arises slot)
+        ∙ ap (λ r. read_by r slot (K.copied slot)) e
 
-    pub framed_spelled : divides_tables k ≡ true → frames by_variations w ≡ K.copied
+    pub unread_spelled : (slot : ℕ) → (settings k).reading slot ≡ absent → w slot ≡ None
+    unfolding wholes
+    unread_spelled slot e = ap (option_map _) (unread_whole slot e)
+
+    pub framed_spelled : divides_tables k ≡ true → frames finest w ≡ K.copied
     framed_spelled some = fun_ext (λ slot. sym (frames_as k some w unread_spelled slot) ∙ own_frames slot)
 
 -- what is read of contents before their outlines

@@ -9,8 +9,8 @@ use Rattle.sfnt_bytes.specs.declared.tag.Tag.{Tag}
 use Rattle.font_file.specs.Font.{font_fault}
 use Rattle.font_file.specs.declared.font_error.FontError.{FontError}
 use Rattle.font_theory.specs.Content.{Content, Font as FontRead, Wanted, content, everything}
-use Rattle.font_theory.specs.Cut.{CanJoin, Format, IsCut, Under, Writes, cut, either, is_cut, joined, renewed}
-use Rattle.font_theory.specs.Cut.{content_of_all, misfit_of}
+use Rattle.font_theory.specs.Cut.{CanJoin, Format, IsCut, Under, Writes, content_of_all, cut, either_wanted, is_cut}
+use Rattle.font_theory.specs.Cut.{joined, misfit_of, renewed}
 use Rattle.font_theory.specs.Difference.{difference}
 use Rattle.font_theory.specs.File.{file, current_writing}
 use Rattle.font_theory.specs.Agreement.{both}
@@ -22,12 +22,12 @@ use Rattle.font_theory.proofs.FontLemmas.{size-accepted}
 use Rattle.font_theory.proofs.RefusalLemmas.{CanJoin-tested, different-under, no_cut-under, refused-under}
 use Rattle.font_theory.proofs.RefusalLemmas.{tested-CanJoin, unfit-under}
 use Rattle.font_write.specs.WholeFile.{IsFileRefusal, IsTooLarge, IsWritten}
-use Rattle.font_write.specs.declared.whole_file.FileError.{FileError}
-use Rattle.font_write.specs.declared.whole_file.FileError.TheVariants as file_errors
+use Rattle.font_write.specs.declared.cut_error.CutError.{CutError}
+use Rattle.font_write.specs.declared.cut_error.CutError.TheVariants as cut_errors
 use Rattle.font_theory.specs.Kinds.{IsKind}
 use Rattle.font_join.specs.Inside.{IsNoFont}
-use Rattle.font_join.specs.Join.{IsForSize, IsJoin, IsJoinRefusal, IsLeastUpper, RefusalIsRight, IsUnionRefusal}
-use Rattle.font_join.specs.Join.{different, form_fault, join_fault, of_file_error, too_long, union_fault}
+use Rattle.font_join.specs.Join.{IsForSize, IsJoin, IsJoinRefusal, IsLeastUpper, IsUnionRefusal, RefusalIsRight}
+use Rattle.font_join.specs.Join.{different, form_fault, join_error_of_cut, join_fault, too_long, union_fault}
 use Rattle.font_join.specs.declared.join_error.JoinError.{JoinError}
 use Rattle.font_join.specs.declared.join_error.JoinError.TheVariants.{DifferentGlyph, DifferentMapping, DifferentTable}
 use Rattle.font_join.specs.declared.join_error.JoinError.TheVariants.{Font, NoMemory, NotACut, TableTooLong, TooLarge}
@@ -221,10 +221,10 @@ module _ {R : Format} {fault : List ℕ → Option FontError} {font : List ℕ �
 
     -- a join whose file is not made
     pub unmade : font_fault x ≡ None → font_fault y ≡ None → union_fault R x y ≡ None → (C : Content)
-        → C ≡ spelled (both (content_of_all R x) (content_of_all R y)) → (error : FileError)
-        → IsFileRefusal (file current_writing C) error → IsJoinRefusal R x y (of_file_error error)
-    unmade e f h C spells file_errors.NoMemory r = (e, f)
-    unmade e f h C spells (file_errors.TooLarge s) r = is_too_large e f h C spells s r
+        → C ≡ spelled (both (content_of_all R x) (content_of_all R y)) → (error : CutError)
+        → IsFileRefusal (file current_writing C) error → IsJoinRefusal R x y (join_error_of_cut error)
+    unmade e f h C spells cut_errors.NoMemory r = (e, f)
+    unmade e f h C spells (cut_errors.TooLarge s) r = is_too_large e f h C spells s r
 
     -- what follows where there is no refusal
     pub joinable : join_fault R x y ≡ None → CanJoin R x y × (length (joined R x y) ≤ MAX_FILE)
@@ -392,14 +392,15 @@ module _ {R : Format} {fault : List ℕ → Option FontError} {font : List ℕ �
     can_join_cuts = CanJoin-cuts R kind.law F accepted A B x y ex ey
         (subst (λ (n : ℕ). length x ≤ n) (sym kind.limit) sx) (subst (λ (n : ℕ). length y ≤ n) (sym kind.limit) sy)
 
-    is_union : joined R x y ≡ cut R F (either A B)
+    is_union : joined R x y ≡ cut R F (either_wanted A B)
     is_union = joined-cuts R kind.law F accepted A B x y ex ey
         (subst (λ (n : ℕ). length x ≤ n) (sym kind.limit) sx) (subst (λ (n : ℕ). length y ≤ n) (sym kind.limit) sy)
 
-    pub cuts_joined : (z : List ℕ) → IsJoin R x y z → z ≡ cut R F (either A B)
+    pub cuts_joined : (z : List ℕ) → IsJoin R x y z → z ≡ cut R F (either_wanted A B)
     cuts_joined z ok = ok.is ∙ is_union
 
-    pub cuts_refused : (error : JoinError) → IsJoinRefusal R x y error → IsForSize (length (cut R F (either A B))) error
+    pub cuts_refused : (error : JoinError) → IsJoinRefusal R x y error
+        → IsForSize (length (cut R F (either_wanted A B))) error
     cuts_refused error r =
         subst (λ (b : List ℕ). IsForSize (length b) error) is_union (only_size x y can_join_cuts error r)
 

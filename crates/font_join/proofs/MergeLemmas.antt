@@ -1,49 +1,48 @@
 -- A cut that is merged into a union of cuts of its kind.
-use Rattle.std.proofs.Common.{◌≡◌, ◌≢◌, ℕ, ◌≤◌, Bool, true, false, cond, List, [], find, length, Option}
-use Rattle.std.proofs.Common.{None, inl, inr, refl, sym, ap, ◌∙◌, subst, arith}
+use Rattle.std.proofs.Common.{◌≡◌, ℕ, ◌<◌, ◌≤◌, Bool, true, false, cond, List, [], find, length, Option}
+use Rattle.std.proofs.Common.{None, Some, inl, inr, refl, sym, ap, ◌∙◌, subst, arith}
 use Rattle.std.proofs.lemmas.Bool.{cases_Bool}
 use Rattle.std.specs.List.{range_with_len}
 use Rattle.std.specs.Option.{option_map}
 use Rattle.std.proofs.Math.Path.{fun_ext}
 use Rattle.sfnt_bytes.specs.declared.directory.TheConstants.{MAX_FILE}
-use Rattle.sfnt_bytes.specs.declared.tag.TheConstants.{GVAR, HMTX, POST, VMTX}
 use Rattle.font_tables.specs.Fields.{glyph_count_of}
 use Rattle.codes.specs.CharacterMap.{AreCompatible, united}
 use Rattle.font_glyph.specs.RecordMap.{record_in, union_of}
-use Rattle.font_theory.specs.Content.{Content, IsClosedContent, content, everything, font_of, glyph_count}
-use Rattle.font_theory.specs.Content.{is_kept, table_in_slot}
+use Rattle.font_theory.specs.Content.{Content, IsClosedContent, content, everything, glyph_count, is_kept, plain_font}
+use Rattle.font_theory.specs.Content.{read_back, table_in_slot}
 use Rattle.font_theory.proofs.CutLemmas.{IsCut-current}
 use Rattle.font_theory.specs.Cut.{Arises, IsCut, content_of_all}
 use Rattle.font_theory.specs.Cut.Arises.{of_file, of_two}
 use Rattle.font_theory.specs.Difference.{difference}
 use Rattle.font_theory.specs.Agreement.{Agree, both}
-use Rattle.font_theory.specs.Parted.{either_bytes}
-use Rattle.font_theory.specs.Parting.{Tables, frames, may_divide}
+use Rattle.font_theory.specs.Parting.{IsPart, IsPartition, Tables, context, frames, may_divide}
 use Rattle.font_theory.specs.declared.Difference.TheVariants.{AtGlyph}
 use Rattle.font_theory.proofs.ArisesLemmas.{IsClosed-arises}
 use Rattle.font_theory.proofs.ContentLemmas.{nothing_either, parts-path}
 use Rattle.font_theory.proofs.DifferenceLemmas.{Agree-from_none}
-use Rattle.font_subset.proofs.SourceLemmas.{count_as, short_gvar}
-use Rattle.font_theory.proofs.KindJoinLemmas.{unions}
-use Rattle.font_theory.proofs.KindLemmas.{divides, kind_is, settings-are}
-use Rattle.font_theory.proofs.SettingsLemmas.{IsClosed-by, there-written}
-use Rattle.font_theory.specs.Kinds.{by_variations, font_as, format_of, settings}
-use Rattle.font_theory.specs.Kinds.{spelled_by, tables_as, there_by, divides_tables}
+use Rattle.font_subset.proofs.SourceLemmas.{count_as, fine_tables}
+use Rattle.font_theory.proofs.HeldLemmas.{parts-none}
+use Rattle.font_theory.proofs.KindLemmas.{kind_is, settings-are}
+use Rattle.font_theory.proofs.PartLemmas.{context-alike, good-font, wholes-other}
+use Rattle.font_theory.proofs.SettingsLemmas.{IsClosed-by, IsDivided-by, there-written}
+use Rattle.font_theory.specs.Kinds.{divides_tables, font_of, format_of, partition_of, settings, spelled_by, tables_of}
+use Rattle.font_theory.specs.Kinds.{there_by}
 use Rattle.font_theory.specs.declared.kinds.Kind.{Kind}
 use Rattle.map_union.specs.RunLists.{TwoLists, map_in}
 use Rattle.font_join.specs.Inside.{AreTaken, early_difference}
-use Rattle.divided_tables.specs.Open.{HasFineGvar, Made, laid_over, replaced, united_gvar}
-use Rattle.divided_tables.proofs.MadeLemmas.{frames_moved, replaced_hmtx, replaced_is, replaced_other, replaced_post}
-use Rattle.divided_tables.proofs.MadeLemmas.{replaced_vmtx}
+use Rattle.divided_tables.specs.DividedTables.{AreFine, AreUnionOf, Made, all_laid, finest, replaced}
+use Rattle.divided_tables.specs.PartedTable.{AreJoinable}
+use Rattle.divided_tables.proofs.KindPartLemmas.{fine_font, part_at, parts_part, wholes_as}
+use Rattle.divided_tables.proofs.MadeLemmas.{frames_moved, united_by}
 use Rattle.font_join.specs.KindInside.{HasFrames, HoldsIn, IsGrown, IsOwn, IsUnion, SpellsIn, least_of, parts_told}
-use Rattle.font_join.specs.Union.{Held, content_in, is_other, listed_outline, tables_in}
-use Rattle.font_join.proofs.FrameLemmas.{count_spelled, framed_spelled, same_count, undivided_spelled}
+use Rattle.font_join.specs.Union.{HasShortTables, Held, content_in, is_other, listed_outline, tables_in}
+use Rattle.font_join.proofs.FrameLemmas.{count_spelled, framed_spelled, same_count, undivided_spelled, unread_whole}
 use Rattle.font_join.proofs.ToldLemmas.{least_none, told_merged}
-use Rattle.font_join.proofs.JoinLemmas.{font_accepted}
 use Rattle.font_join.proofs.OutlineListLemmas.{taken_whole}
 
 pub spells_file : (k : Kind) (y : List ℕ) → IsCut (format_of k) y
-    → SpellsIn k (content (font_as k y) everything) (content_of_all (format_of k) y)
+    → SpellsIn k (content (font_of k y) everything) (content_of_all (format_of k) y)
 spells_file k y form = record { arises = of_file y everything form.accepted refl; is = (kind_is k).means y form }
 
 -- the tables of a union: its own, or those of its first file
@@ -73,70 +72,98 @@ count_in k c o = elim (cases_Bool (divides_tables k)) [
   | inr none ↦ ap glyph_count (sym (first_tables k c o none))
 ]
 
-other_slot : (slot divided : ℕ) → may_divide divided ≡ true → may_divide slot ≡ false → slot ≢ divided
-other_slot slot divided t f e = let no : true ≡ false = sym t ∙ sym (ap may_divide e) ∙ f in cc
+-- what the union of two contents is written with, where their kind divides tables
+module _ (k : Kind) (some : divides_tables k ≡ true) (K L : Content) (first : Arises (format_of k) K)
+    (second : Arises (format_of k) L) (agree : Agree K L) where
+  abbrev is : IsPartition (partition_of k)
+  is = (settings-are k).partition
 
--- what the union of two contents is written with
-module _ (k : Kind) (c : Tables) (o : Made) (C K L : Content) where
-  tables_written : Arises (format_of k) K → Arises (format_of k) L → Agree K L → C ≡ spelled_by k K
-      → replaced c o ≡ C.copied
-      → replaced c (laid_over (spelled_by k L).copied o (united_gvar C (spelled_by k L)))
-      ≡ (spelled_by k (both K L)).copied
-  tables_written first second agree spells is =
-      let D : Content = spelled_by k L in
-      let U = (unions (settings k) (settings-are k) (divides k) K L first second agree).1 in
-      let at : replaced c o ≡ (spelled_by k K).copied = is ∙ ap (λ (M : Content). M.copied) spells in
-      replaced_is c (laid_over D.copied o (united_gvar C D)) (spelled_by k (both K L)).copied
-      (ap (λ (M : Content). united_gvar M D) spells ∙ sym U.gvar)
-      (ap (option_map (λ t. either_bytes t (table_in_slot D.copied HMTX)))
-      (replaced_hmtx c o ∙ ap (λ (t : Tables). t HMTX) at) ∙ sym U.hmtx)
-      (replaced_post c o ∙ ap (λ (t : Tables). t POST) at
-      ∙ sym (U.others POST (λ e. omega (arith, e)) (λ e. omega (arith, e)) (λ e. omega (arith, e))))
-      (ap (option_map (λ t. either_bytes t (table_in_slot D.copied VMTX)))
-      (replaced_vmtx c o ∙ ap (λ (t : Tables). t VMTX) at) ∙ sym U.vmtx)
-      (λ slot f. replaced_other c o slot f ∙ ap (λ (t : Tables). t slot) at
-      ∙ sym (U.others slot (other_slot slot GVAR refl f) (other_slot slot HMTX refl f) (other_slot slot VMTX refl f)))
+  same_copied : L.copied ≡ K.copied
+  same_copied = sym (fun_ext agree.copied)
 
-tables_both : (k : Kind) (c : Tables) (o : Made) (C K L : Content) → Arises (format_of k) K
+  closed_of : (M : Content) → Arises (format_of k) M → IsClosedContent M
+  closed_of M arises = IsClosed-arises (format_of k) (kind_is k).law.is_font M arises
+
+  whole_of : (M : Content) → Arises (format_of k) M → (slot : ℕ) → (spelled_by k M).copied slot
+      ≡ option_map (λ frame. (finest slot).whole (context M.copied) frame (M.parts slot)) (M.copied slot)
+  whole_of M arises slot = sym (wholes_as k some M.copied (unread_whole k M arises) M.parts slot)
+
+  context_of : (M : Content) → context (spelled_by k M).copied ≡ context M.copied
+  context_of M = context-alike M.copied (spelled_by k M).copied (wholes-other (partition_of k) is M.copied M.parts)
+
+  part_of : (M : Content) → Arises (format_of k) M → (slot g : ℕ) (frame : List ℕ) → M.copied slot ≡ Some frame
+      → g < glyph_count M.copied → IsPart (finest slot) (context M.copied) frame g (M.parts slot g)
+  part_of M arises slot g frame here low =
+      parts_part k some M.copied (unread_whole k M arises) slot g frame (M.parts slot g) here
+      (part_at (partition_of k) is M.copied slot g frame (M.parts slot g)
+      ((IsDivided-by (settings k) (settings-are k) M arises).parts slot g) here low)
+
+  joinable : (slot : ℕ) → AreJoinable (finest slot) slot (spelled_by k K) (spelled_by k L) K.copied (K.parts slot)
+      (L.parts slot)
+  joinable slot = record {
+    context_first = context_of K;
+    context_second = context_of L ∙ ap context same_copied;
+    first = whole_of K first slot;
+    second = whole_of L second slot
+        ∙ (λ i. option_map (λ frame. (finest slot).whole (context (same_copied i)) frame (L.parts slot))
+        (same_copied i slot));
+    frame_good = good-font (read_back K) (closed_of K first).font slot;
+    first_parts = λ frame g here low. part_of K first slot g frame here low;
+    second_parts = λ frame g here low. subst (λ (c : Tables). IsPart (finest slot) (context c) frame g (L.parts slot g))
+        same_copied (part_of L second slot g frame (ap (λ (c : Tables). c slot) same_copied ∙ here)
+        (subst (λ (c : Tables). g < glyph_count c) (sym same_copied) low));
+    first_kept = λ g none. parts-none K (closed_of K first) g none slot;
+    second_kept = λ g none. parts-none L (closed_of L second) g none slot;
+    same = λ g a b x y. agree.parts g a b x y slot;
+  }
+
+  tables_written : (c : Tables) (o made : Made) → replaced c o ≡ (spelled_by k K).copied
+      → AreUnionOf (spelled_by k K) (spelled_by k L) made
+      → replaced c (all_laid (spelled_by k L).copied o made) ≡ (spelled_by k (both K L)).copied
+  tables_written c o made at union = united_by c o made (spelled_by k K) (spelled_by k L)
+      (spelled_by k (both K L)).copied at
+      (λ slot t. union slot t K.copied (K.parts slot) (L.parts slot) (joinable slot)
+      ∙ wholes_as k some K.copied (unread_whole k K first) (both K L).parts slot)
+      (λ slot f. wholes-other (partition_of k) is K.copied K.parts slot f
+      ∙ sym (wholes-other (partition_of k) is K.copied (both K L).parts slot f))
+
+tables_both : (k : Kind) (c : Tables) (o made : Made) (C K L : Content) → Arises (format_of k) K
     → Arises (format_of k) L → Agree K L → C ≡ spelled_by k K → tables_in k c o ≡ C.copied
-    → tables_in k c (laid_over (spelled_by k L).copied o (united_gvar C (spelled_by k L)))
-    ≡ (spelled_by k (both K L)).copied
-tables_both k c o C K L first second agree spells is =
-    let over : Made = laid_over (spelled_by k L).copied o (united_gvar C (spelled_by k L)) in
+    → AreUnionOf C (spelled_by k L) made
+    → tables_in k c (all_laid (spelled_by k L).copied o made) ≡ (spelled_by k (both K L)).copied
+tables_both k c o made C K L first second agree spells is union =
+    let over : Made = all_laid (spelled_by k L).copied o made in
+    let at : tables_in k c o ≡ (spelled_by k K).copied = is ∙ ap (λ (M : Content). M.copied) spells in
     elim (cases_Bool (divides_tables k)) [
       | inl some ↦ sym (own_tables k c over some)
-          ∙ tables_written k c o C K L first second agree spells (own_tables k c o some ∙ is)
+          ∙ tables_written k some K L first second agree c o made (own_tables k c o some ∙ at)
+          (subst (λ (M : Content). AreUnionOf M (spelled_by k L) made) spells union)
       | inr none ↦
-          sym (first_tables k c over none) ∙ first_tables k c o none ∙ is ∙ ap (λ (M : Content). M.copied) spells
+          sym (first_tables k c over none) ∙ first_tables k c o none ∙ at
           ∙ undivided_spelled k none K ∙ sym (undivided_spelled k none (both K L))
     ]
 
 pub closed_in : (k : Kind) (C K : Content) → SpellsIn k C K → IsClosedContent C
 closed_in k C K h = subst IsClosedContent (sym h.is) (IsClosed-by (settings k) (settings-are k) K h.arises)
 
--- the `gvar` of a file in cut form, and that of a union, are fine
+-- the tables of a file in cut form, and those of a union, are fine
 pub fine_file : (k : Kind) (y : List ℕ) → IsCut (format_of k) y
-    → HasFineGvar (content (font_as k y) everything).copied
-fine_file k y form = record {
-  accepted = (closed_in k (content (font_as k y) everything) (content_of_all (format_of k) y)
-      (spells_file k y form)).font.variations;
-  short = short_gvar k y (font_accepted (kind_is k) y form.accepted);
-}
+    → AreFine (content (font_of k y) everything).copied
+fine_file k y form = fine_tables k y (sym ((kind_is k).fault_is y) ∙ form.accepted)
 
-pub fine_union : (k : Kind) (C K : Content) → SpellsIn k C K → length (table_in_slot C.copied GVAR) ≤ MAX_FILE
-    → HasFineGvar C.copied
-fine_union k C K h short = record { accepted = (closed_in k C K h).font.variations; short = short }
+pub fine_union : (k : Kind) (C K : Content) → SpellsIn k C K
+    → ((slot : ℕ) → may_divide slot ≡ true → length (table_in_slot C.copied slot) ≤ MAX_FILE) → AreFine C.copied
+fine_union k C K h = fine_font (read_back C) (closed_in k C K h).font
 
--- what the content of a file is written as has the `gvar` of that file
+-- what the content of a file is written as has the tables of that file
 pub short_spelled : (k : Kind) (C : Content) (x : List ℕ) → SpellsIn k C (content_of_all (format_of k) x)
-    → IsCut (format_of k) x → length (table_in_slot C.copied GVAR) ≤ MAX_FILE
-short_spelled k C x h form =
-    subst (λ (D : Content). length (table_in_slot D.copied GVAR) ≤ MAX_FILE)
+    → IsCut (format_of k) x → (slot : ℕ) → may_divide slot ≡ true → length (table_in_slot C.copied slot) ≤ MAX_FILE
+short_spelled k C x h form slot t =
+    subst (λ (D : Content). length (table_in_slot D.copied slot) ≤ MAX_FILE)
     (sym (h.is ∙ sym ((kind_is k).means x form)))
-    (fine_file k x form).short
+    (fine_file k x form slot t).short
 
-pub short_held : (u : Held) (k : Kind) (x : List ℕ) → HoldsIn k u x
-    → length (table_in_slot (content_in u).copied GVAR) ≤ MAX_FILE
+pub short_held : (u : Held) (k : Kind) (x : List ℕ) → HoldsIn k u x → HasShortTables u
 short_held u k x h =
     short_spelled k (content_in u) x h.holds.spells (IsCut-current (format_of k) x h.holds.form)
 
@@ -153,7 +180,7 @@ module _ (u v : Held) (same : u ≡ v) (q : Kind) (kind : q ≡ v.kind) (y : Lis
     (early : (M : Content) → SpellsIn v.kind (content_in v) M → early_difference M (content_of_all (format_of v.kind) y)
     ≡ None)
     (n : ℕ) (count : n ≡ glyph_count_of u.tables) (other parts : Option ℕ)
-    (differs : other ≡ find (is_other (listed_outline u.outlines) (content (font_as q y) everything).outline)
+    (differs : other ≡ find (is_other (listed_outline u.outlines) (content (font_of q y) everything).outline)
     (range_with_len 0 n))
     (told : (M : Content) → SpellsIn v.kind (content_in v) M → parts
     ≡ parts_told M (content_of_all (format_of v.kind) y))
@@ -166,12 +193,12 @@ module _ (u v : Held) (same : u ≡ v) (q : Kind) (kind : q ≡ v.kind) (y : Lis
 
   pub told_of : difference K (content_of_all (format_of u.kind) y) ≡ option_map AtGlyph (least_of parts other)
   told_of =
-      told_merged u.kind (content_in u) (content (font_as u.kind y) everything) K (content_of_all (format_of u.kind) y)
+      told_merged u.kind (content_in u) (content (font_of u.kind y) everything) K (content_of_all (format_of u.kind) y)
       spells (spells_file u.kind y form_of)
       (subst (λ (w : Held). (M : Content) → SpellsIn w.kind (content_in w) M
       → early_difference M (content_of_all (format_of w.kind) y) ≡ None) (sym same) early K spells)
-      other parts n (count ∙ count_as u.kind u.tables ∙ sym (count_in u.kind (tables_as u.kind u.tables) u.own))
-      (subst (λ (k : Kind). other ≡ find (is_other (listed_outline u.outlines) (content (font_as k y)
+      other parts n (count ∙ count_as u.kind u.tables ∙ sym (count_in u.kind (tables_of u.kind u.tables) u.own))
+      (subst (λ (k : Kind). other ≡ find (is_other (listed_outline u.outlines) (content (font_of k y)
       everything).outline)
       (range_with_len 0 n)) kind_of differs)
       (subst (λ (w : Held). (M : Content) → SpellsIn w.kind (content_in w) M
@@ -195,10 +222,10 @@ count_early k C D K L h g early =
 frames_kept : (k : Kind) (C D K M : Content) (made : Made) → SpellsIn k C K → SpellsIn k D M
     → K.copied ≡ M.copied → HasFrames k C.copied made → HasFrames k D.copied made
 frames_kept k C D K M made h g same are some =
-    let first : frames by_variations C.copied ≡ K.copied =
-    ap (λ (N : Content). frames by_variations N.copied) h.is ∙ framed_spelled k K h.arises some in
-    let second : frames by_variations D.copied ≡ M.copied =
-    ap (λ (N : Content). frames by_variations N.copied) g.is ∙ framed_spelled k M g.arises some in
+    let first : frames finest C.copied ≡ K.copied =
+    ap (λ (N : Content). frames finest N.copied) h.is ∙ framed_spelled k K h.arises some in
+    let second : frames finest D.copied ≡ M.copied =
+    ap (λ (N : Content). frames finest N.copied) g.is ∙ framed_spelled k M g.arises some in
     frames_moved C.copied D.copied made (are some) (first ∙ same ∙ sym second)
 
 module _ (u : Held) (y : List ℕ) (K : Content) (spells : SpellsIn u.kind (content_in u) K)
@@ -207,7 +234,7 @@ module _ (u : Held) (y : List ℕ) (K : Content) (spells : SpellsIn u.kind (cont
   L = content_of_all (format_of u.kind) y
 
   abbrev D : Content
-  D = content (font_as u.kind y) everything
+  D = content (font_of u.kind y) everything
 
   second : SpellsIn u.kind D L
   second = spells_file u.kind y form
@@ -222,9 +249,9 @@ module _ (u : Held) (y : List ℕ) (K : Content) (spells : SpellsIn u.kind (cont
   compatible = subst (λ (m : ℕ → ℕ). AreCompatible m D.map) (sym map_first)
       (subst (λ (m : ℕ → ℕ). AreCompatible K.map m) (sym map_second) agree.map)
 
-  count_merged : glyph_count_of u.tables ≡ glyph_count (tables_as u.kind y)
+  count_merged : glyph_count_of u.tables ≡ glyph_count (tables_of u.kind y)
   count_merged =
-      count_as u.kind u.tables ∙ sym (count_in u.kind (tables_as u.kind u.tables) u.own)
+      count_as u.kind u.tables ∙ sym (count_in u.kind (tables_of u.kind u.tables) u.own)
       ∙ ap (λ (C : Content). glyph_count C.copied) spells.is
       ∙ count_spelled u.kind K ∙ ap glyph_count (fun_ext agree.copied)
       ∙ sym (count_spelled u.kind L) ∙ sym (ap (λ (C : Content). glyph_count C.copied) second.is)
@@ -236,21 +263,20 @@ module _ (u : Held) (y : List ℕ) (K : Content) (spells : SpellsIn u.kind (cont
       ∙ sym e) are
 
   module _ (fit : (format_of u.kind).misfit (both K L) ≡ None) (runs : TwoLists) (outlines : List (Option (List ℕ)))
-      (own : Made) (maps : map_in runs ≡ united (map_in u.runs) D.map)
+      (own tables : Made) (maps : map_in runs ≡ united (map_in u.runs) D.map)
       (taken : (g : ℕ) → listed_outline outlines g ≡ union_of (listed_outline u.outlines) D.outline g)
-      (over : own ≡ laid_over D.copied u.own (united_gvar (content_in u) D)) where
+      (joined : AreUnionOf (content_in u) D tables) (over : own ≡ all_laid D.copied u.own tables) where
     abbrev merged : Held
     merged = record { kind = u.kind; tables = u.tables; runs = runs; outlines = outlines; own = own }
 
     tables_merged : (content_in merged).copied ≡ (spelled_by u.kind (both K L)).copied
     tables_merged =
-        ap (tables_in u.kind (tables_as u.kind u.tables)) over
-        ∙ ap (λ (M : Content). tables_in u.kind (tables_as u.kind u.tables)
-        (laid_over M.copied u.own (united_gvar (content_in u) M))) second.is
-        ∙ tables_both u.kind (tables_as u.kind u.tables) u.own (content_in u) K L spells.arises second.arises agree
-        spells.is refl
+        ap (tables_in u.kind (tables_of u.kind u.tables)) over
+        ∙ ap (λ (M : Content). tables_in u.kind (tables_of u.kind u.tables) (all_laid M.copied u.own tables)) second.is
+        ∙ tables_both u.kind (tables_of u.kind u.tables) u.own tables (content_in u) K L spells.arises second.arises
+        agree spells.is refl (subst (λ (M : Content). AreUnionOf (content_in u) M tables) second.is joined)
 
-    head_merged : (font_of u.tables).head ≡ (spelled_by u.kind (both K L)).head
+    head_merged : (plain_font u.tables).head ≡ (spelled_by u.kind (both K L)).head
     head_merged = ap (λ (C : Content). C.head) spells.is
 
     map_merged : map_in runs ≡ (spelled_by u.kind (both K L)).map
@@ -303,7 +329,7 @@ module _ (u v : Held) (same : u ≡ v) (q : Kind) (kind : q ≡ v.kind) (y : Lis
     (early : (M : Content) → SpellsIn v.kind (content_in v) M → early_difference M (content_of_all (format_of v.kind) y)
     ≡ None)
     (n : ℕ) (count : n ≡ glyph_count_of u.tables) (other parts : Option ℕ)
-    (differs : other ≡ find (is_other (listed_outline u.outlines) (content (font_as q y) everything).outline)
+    (differs : other ≡ find (is_other (listed_outline u.outlines) (content (font_of q y) everything).outline)
     (range_with_len 0 n))
     (told : (M : Content) → SpellsIn v.kind (content_in v) M → parts
     ≡ parts_told M (content_of_all (format_of v.kind) y))
@@ -311,11 +337,11 @@ module _ (u v : Held) (same : u ≡ v) (q : Kind) (kind : q ≡ v.kind) (y : Lis
     (tells : (M : Content) → SpellsIn v.kind (content_in v) M → unfit
     ≡ (format_of v.kind).misfit (both M (content_of_all (format_of v.kind) y)))
     (fits : unfit ≡ None) (runs : TwoLists) (outlines : List (Option (List ℕ))) (own : Made)
-    (gvar : Option (List ℕ)) (of_glyphs : length u.outlines ≡ glyph_count_of u.tables)
-    (taken : other ≡ None → AreTaken u.outlines outlines (content (font_as q y) everything).outline n)
-    (maps : map_in runs ≡ united (map_in u.runs) (content (font_as q y) everything).map)
-    (joined : gvar ≡ united_gvar (content_in v) (content (font_as q y) everything))
-    (over : own ≡ laid_over (tables_as q y) u.own gvar) (K : Content) (spells : SpellsIn u.kind (content_in u) K) where
+    (tables : Made) (of_glyphs : length u.outlines ≡ glyph_count_of u.tables)
+    (taken : other ≡ None → AreTaken u.outlines outlines (content (font_of q y) everything).outline n)
+    (maps : map_in runs ≡ united (map_in u.runs) (content (font_of q y) everything).map)
+    (joined : AreUnionOf (content_in v) (content (font_of q y) everything) tables)
+    (over : own ≡ all_laid (tables_of q y) u.own tables) (K : Content) (spells : SpellsIn u.kind (content_in u) K) where
   abbrev all : Held
   all = record { kind = u.kind; tables = u.tables; runs = runs; outlines = outlines; own = own }
 
@@ -331,30 +357,33 @@ module _ (u v : Held) (same : u ≡ v) (q : Kind) (kind : q ≡ v.kind) (y : Lis
   fit : (format_of u.kind).misfit (both K (content_of_all (format_of u.kind) y)) ≡ None
   fit = sym (misfit_of_union u v same y unfit tells K spells) ∙ fits
 
-  are : AreTaken u.outlines outlines (content (font_as u.kind y) everything).outline n
-  are = subst (λ (k : Kind). AreTaken u.outlines outlines (content (font_as k y) everything).outline n) here
+  are : AreTaken u.outlines outlines (content (font_of u.kind y) everything).outline n
+  are = subst (λ (k : Kind). AreTaken u.outlines outlines (content (font_of k y) everything).outline n) here
       (taken (least_none parts other least))
 
-  laid : own ≡ laid_over (tables_as u.kind y) u.own (united_gvar (content_in u) (content (font_as u.kind y) everything))
-  laid = over
-      ∙ (λ i. laid_over (tables_as (here i) y) u.own ((joined
-      ∙ (λ j. united_gvar (content_in (sym same j)) (content (font_as (here j) y) everything))) i))
+  laid : own ≡ all_laid (tables_of u.kind y) u.own tables
+  laid = over ∙ ap (λ (k : Kind). all_laid (tables_of k y) u.own tables) here
+
+  united_here : AreUnionOf (content_in u) (content (font_of u.kind y) everything) tables
+  united_here = subst (λ (k : Kind). AreUnionOf (content_in u) (content (font_of k y) everything) tables) here
+      (subst (λ (w : Held). AreUnionOf (content_in w) (content (font_of q y) everything) tables) (sym same) joined)
 
   all_taken : (g : ℕ) → listed_outline outlines g
-      ≡ union_of (listed_outline u.outlines) (content (font_as u.kind y) everything).outline g
+      ≡ union_of (listed_outline u.outlines) (content (font_of u.kind y) everything).outline g
   all_taken = taken_merged u y K spells cut_here agree outlines n count of_glyphs are
 
   pub grown_of : IsGrown u.kind y K all
   grown_of = record {
     kind_is = refl;
-    spells = spells_merged u y K spells cut_here agree fit runs outlines own maps all_taken laid;
+    spells = spells_merged u y K spells cut_here agree fit runs outlines own tables maps all_taken united_here laid;
     none = none_of u v same q kind y cut early n count other parts differs told K spells least;
     fit = fit;
   }
 
   pub union_of_all : (made : Made) → IsUnion u made → IsUnion all made
   union_of_all made ok =
-      union_merged u y K spells cut_here agree fit runs outlines own maps all_taken laid made ok are.count
+      union_merged u y K spells cut_here agree fit runs outlines own tables maps all_taken united_here laid made ok
+      are.count
 
 -- a first file
 tables_of_first : (k : Kind) (c : Tables) (o : Made) → IsOwn k c o → tables_in k c o ≡ c
@@ -364,16 +393,16 @@ tables_of_first k c o is = elim (cases_Bool (divides_tables k)) [
 ]
 
 module _ (k : Kind) (x : List ℕ) (form : IsCut (format_of k) x) (runs : TwoLists) (outlines : List (Option (List ℕ)))
-    (own : Made) (spells : map_in runs ≡ (content (font_as k x) everything).map)
-    (taken : (g : ℕ) → listed_outline outlines g ≡ (content (font_as k x) everything).outline g)
-    (copies : IsOwn k (tables_as k x) own) where
+    (own : Made) (spells : map_in runs ≡ (content (font_of k x) everything).map)
+    (taken : (g : ℕ) → listed_outline outlines g ≡ (content (font_of k x) everything).outline g)
+    (copies : IsOwn k (tables_of k x) own) where
   abbrev of_one : Held
   of_one = record { kind = k; tables = x; runs = runs; outlines = outlines; own = own }
 
-  tables_first : (content_in of_one).copied ≡ tables_as k x
-  tables_first = tables_of_first k (tables_as k x) own copies
+  tables_first : (content_in of_one).copied ≡ tables_of k x
+  tables_first = tables_of_first k (tables_of k x) own copies
 
-  there_first : (content_in of_one).there ≡ (content (font_as k x) everything).there
+  there_first : (content_in of_one).there ≡ (content (font_of k x) everything).there
   there_first =
       let means = (kind_is k).means x form in
       (λ i. there_by (settings k) (tables_first i) (record_in (fun_ext taken i)))
@@ -382,20 +411,20 @@ module _ (k : Kind) (x : List ℕ) (form : IsCut (format_of k) x) (runs : TwoLis
       (of_file x everything form.accepted refl))
       ∙ sym (ap (λ (C : Content). C.there) means)
 
-  content_first : content_in of_one ≡ content (font_as k x) everything
+  content_first : content_in of_one ≡ content (font_of k x) everything
   content_first = λ i. record {
     copied = tables_first i;
-    head = (font_of x).head;
+    head = (plain_font x).head;
     map = spells i;
     outline = fun_ext taken i;
-    parts = sym (parts-path (λ slot g. nothing_either (is_kept (font_as k x) everything g) [] refl)) i;
+    parts = sym (parts-path (λ slot g. nothing_either (is_kept (font_of k x) everything g) [] refl)) i;
     there = there_first i;
   }
 
   pub spells_first : SpellsIn k (content_in of_one) (content_of_all (format_of k) x)
   spells_first = record { arises = (spells_file k x form).arises; is = content_first ∙ (spells_file k x form).is }
 
-  pub union_first : (made : Made) → HasFrames k (content (font_as k x) everything).copied made
+  pub union_first : (made : Made) → HasFrames k (content (font_of k x) everything).copied made
       → length outlines ≡ glyph_count_of x → IsUnion of_one made
   union_first made are count = record {
     count = count;

@@ -15,7 +15,7 @@ use Rattle.sfnt_bytes.specs.declared.directory.TheConstants.{MAX_FILE}
 use Rattle.font_glyph.specs.RecordMap.{Records, union_of}
 use Rattle.font_theory.specs.Content.{content, everything, glyph_count}
 use Rattle.font_theory.specs.Cut.{IsCut}
-use Rattle.font_theory.specs.Kinds.{font_as, format_of, tables_as}
+use Rattle.font_theory.specs.Kinds.{font_of, format_of, tables_of}
 use Rattle.font_theory.specs.declared.kinds.Kind.{Kind}
 use Rattle.font_theory.proofs.ContentLemmas.{IsClosed-content}
 use Rattle.font_theory.proofs.KindLemmas.{kind_is}
@@ -150,17 +150,17 @@ other_end K L n m k past end below = sym (first_absent (is_other K L) m (λ g lo
 ]))
 
 -- a file in cut form keeps no glyph past its count
-pub whole_past : (kind : Kind) (X : List ℕ) → IsCut (format_of kind) X → (g : ℕ) → glyph_count (tables_as kind X) ≤ g
-    → (content (font_as kind X) everything).outline g ≡ None
+pub whole_past : (kind : Kind) (X : List ℕ) → IsCut (format_of kind) X → (g : ℕ) → glyph_count (tables_of kind X) ≤ g
+    → (content (font_of kind X) everything).outline g ≡ None
 whole_past kind X form g h =
-    (IsWritable-closed _ (IsClosed-content (font_as kind X) everything (is_font kind X (sym ((kind_is kind).fault_is X)
+    (IsWritable-closed _ (IsClosed-content (font_of kind X) everything (is_font kind X (sym ((kind_is kind).fault_is X)
     ∙ form.accepted)))).past g h
 
 pub taken_whole : (old now : List (Option (List ℕ))) (kind : Kind) (X : List ℕ) (n : ℕ) → IsCut (format_of kind) X
-    → n ≡ glyph_count (tables_as kind X) → length old ≡ n
-    → AreTaken old now (content (font_as kind X) everything).outline n
-    → (g : ℕ) → listed_outline now g ≡ union_of (listed_outline old) (content (font_as kind X) everything).outline g
-taken_whole old now kind X n form e count are = taken_all old now (content (font_as kind X) everything).outline n are
+    → n ≡ glyph_count (tables_of kind X) → length old ≡ n
+    → AreTaken old now (content (font_of kind X) everything).outline n
+    → (g : ℕ) → listed_outline now g ≡ union_of (listed_outline old) (content (font_of kind X) everything).outline g
+taken_whole old now kind X n form e count are = taken_all old now (content (font_of kind X) everything).outline n are
     count (λ g h. whole_past kind X form g (omega (arith, h, e)))
 
 pub outline_none : {X : Type 0} (f : X → Option (List ℕ)) (x : X) → f x ≡ None → (n g : ℕ)

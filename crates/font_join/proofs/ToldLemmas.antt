@@ -10,7 +10,7 @@ use Rattle.sfnt_bytes.specs.declared.tag.TheConstants.{ALL_SLOTS}
 use Rattle.font_theory.specs.Content.{Content, glyph_count, is_never_copied}
 use Rattle.font_theory.specs.Cut.{Arises}
 use Rattle.font_theory.specs.Difference.{PARTED, are_different, difference, has_other_part, is_different_glyph}
-use Rattle.font_theory.specs.Kinds.{by_variations, divides_tables, format_of, partition_of, settings, spelled_by}
+use Rattle.font_theory.specs.Kinds.{divides_tables, format_of, partition_of, settings, spelled_by}
 use Rattle.font_theory.specs.Parting.{Tables, parts_of}
 use Rattle.font_theory.specs.declared.Difference.TheVariants.{AtGlyph}
 use Rattle.font_theory.specs.declared.kinds.Kind.{Kind}
@@ -24,7 +24,7 @@ use Rattle.font_theory.proofs.PartLemmas.{parts_of-undivided}
 use Rattle.font_theory.proofs.SettingsLemmas.{IsDivided-by}
 use Rattle.font_theory.proofs.WritableLemmas.{IsWritable-closed}
 use Rattle.font_write.specs.Parts.{IsNextKept}
-use Rattle.divided_tables.specs.Open.{AreOpen, OpenParts, has_same_parts}
+use Rattle.divided_tables.specs.DividedTables.{AreOpen, OpenParts, finest, has_same_parts}
 use Rattle.divided_tables.proofs.KindPartLemmas.{parts_as}
 use Rattle.divided_tables.proofs.OpenLemmas.{parts_same, same_parts}
 use Rattle.font_join.specs.Inside.{early_difference}
@@ -129,7 +129,7 @@ module _ (k : Kind) (some : divides_tables k ≡ true) (K L : Content) (first : 
     (second : Arises (format_of k) L) (o p : OpenParts) (are : AreOpen (spelled_by k K).copied o)
     (also : AreOpen (spelled_by k L).copied p) (g : ℕ) where
   parts_here : (M : Content) → Arises (format_of k) M → (slot : ℕ)
-      → parts_of by_variations (spelled_by k M).copied slot g ≡ M.parts slot g
+      → parts_of finest (spelled_by k M).copied slot g ≡ M.parts slot g
   parts_here M m slot =
       sym (parts_as k some (spelled_by k M).copied (unread_spelled k M m) slot g) ∙ parts_spelled k M m g slot
 

@@ -18,8 +18,8 @@ use Rattle.font_theory.proofs.CutLemmas.{content_of_all-written}
 use Rattle.font_theory.proofs.JoinLemmas.{both-self}
 use Rattle.font_theory.proofs.RefusalLemmas.{tested-CanJoin}
 use Rattle.font_write.specs.WholeFile.{IsFileRefusal, IsWritten}
-use Rattle.font_write.specs.declared.whole_file.FileError.{FileError}
-use Rattle.font_write.specs.declared.whole_file.FileError.TheVariants as file_errors
+use Rattle.font_write.specs.declared.cut_error.CutError.{CutError}
+use Rattle.font_write.specs.declared.cut_error.CutError.TheVariants as cut_errors
 use Rattle.font_theory.specs.Kinds.{IsKind, format_of}
 use Rattle.font_theory.specs.declared.kinds.Kind.{Kind}
 use Rattle.font_theory.proofs.KindLemmas.{kind_is}
@@ -27,8 +27,8 @@ use Rattle.font_subset.specs.OpenedFont.{IsOpenRefusal}
 use Rattle.font_subset.specs.declared.open_error.OpenError.{OpenError}
 use Rattle.font_subset.specs.declared.open_error.OpenError.TheVariants as open_errors
 use Rattle.font_join.specs.Inside.{HoldsFile, IsAddRefusal, IsFirstUnion, IsFormRefusal, IsTooLargeFile, IsUnited}
-use Rattle.font_join.specs.Inside.{Spells, add_fault, of_open_error}
-use Rattle.font_join.specs.Join.{IsJoin, IsJoinRefusal, IsUnionRefusal, different, form_fault, of_file_error}
+use Rattle.font_join.specs.Inside.{Spells, add_fault, join_error_of_open}
+use Rattle.font_join.specs.Join.{IsJoin, IsJoinRefusal, IsUnionRefusal, different, form_fault, join_error_of_cut}
 use Rattle.font_join.specs.Join.{too_long, union_fault}
 use Rattle.font_join.specs.JoinList.{IsAllJoined, IsRefusedAt, Stands}
 use Rattle.font_join.specs.declared.join_error.JoinError.{JoinError}
@@ -43,7 +43,7 @@ use Rattle.font_join.proofs.UnionLemmas.{first_form}
 
 -- a font that is not opened for cuts of a kind is not taken for a cut
 pub unopened_refused : (kind : Kind) (which : Which) (x : List ℕ) (error : OpenError) → IsOpenRefusal kind x error
-    → IsFormRefusal (format_of kind) which x (of_open_error which error)
+    → IsFormRefusal (format_of kind) which x (join_error_of_open which error)
 unopened_refused kind which x open_errors.NoMemory h = tt
 unopened_refused kind which x (open_errors.Refused error) h =
     form_unread (format_of kind) which x error ((kind_is kind).fault_is x ∙ h)
@@ -254,8 +254,8 @@ module _ {R : Format} {fault : List ℕ → Option FontError} {font : List ℕ �
               })
 
       -- where its file is not in memory, that is a refusal of the last step, and its size is none
-      pub united_refused : (error : FileError) → IsFileRefusal (file current_writing C) error
-          → IsRefusedAt R files (length files - 1) (of_file_error error)
-      united_refused file_errors.NoMemory r = united_memory
-      united_refused (file_errors.TooLarge size) r =
+      pub united_refused : (error : CutError) → IsFileRefusal (file current_writing C) error
+          → IsRefusedAt R files (length files - 1) (join_error_of_cut error)
+      united_refused cut_errors.NoMemory r = united_memory
+      united_refused (cut_errors.TooLarge size) r =
           let small = union_small files C is in absurd (omega (arith, small, r.0, r.1))

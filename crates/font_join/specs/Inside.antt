@@ -68,9 +68,9 @@ abbrev pub IsNoFont : Which → List ℕ → JoinError → Type 0
 IsNoFont which x error = (fault : FontError) × (font_fault x ≡ Some fault) × (error ≡ Font which fault)
 
 -- the refusal of a join one of whose fonts is not opened for cuts of a kind
-abbrev pub of_open_error : Which → OpenError → JoinError
-of_open_error which open_errors.NoMemory = NoMemory
-of_open_error which (open_errors.Refused error) = Font which error
+abbrev pub join_error_of_open : Which → OpenError → JoinError
+join_error_of_open which open_errors.NoMemory = NoMemory
+join_error_of_open which (open_errors.Refused error) = Font which error
 
 -- why an accepted file is not taken for a cut: out of memory, or it is none
 abbrev pub IsFormRefusal : Format → Which → List ℕ → JoinError → Type 0

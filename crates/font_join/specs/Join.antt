@@ -7,8 +7,8 @@ use Rattle.sfnt_bytes.specs.declared.directory.DirError.TheVariants.{FileTooLarg
 use Rattle.sfnt_bytes.specs.declared.directory.TheConstants.{MAX_FILE}
 use Rattle.font_file.specs.Font.{font_fault}
 use Rattle.font_file.specs.declared.font_error.FontError.TheVariants.{Directory}
-use Rattle.font_write.specs.declared.whole_file.FileError.{FileError}
-use Rattle.font_write.specs.declared.whole_file.FileError.TheVariants as file_errors
+use Rattle.font_write.specs.declared.cut_error.CutError.{CutError}
+use Rattle.font_write.specs.declared.cut_error.CutError.TheVariants as cut_errors
 use Rattle.font_theory.specs.Cut.{Format, IsCurrent, Under, is_cut, joined, content_of_all, misfit_of}
 use Rattle.font_theory.specs.Difference.{difference}
 use Rattle.font_theory.specs.Agreement.{Agree}
@@ -31,9 +31,9 @@ abbrev pub too_long : ℕ → JoinError
 too_long slot = TableTooLong (slot_tag slot)
 
 -- the refusal for a file that is not made
-abbrev pub of_file_error : FileError → JoinError
-of_file_error file_errors.NoMemory = NoMemory
-of_file_error (file_errors.TooLarge size) = TooLarge size
+abbrev pub join_error_of_cut : CutError → JoinError
+join_error_of_cut cut_errors.NoMemory = NoMemory
+join_error_of_cut (cut_errors.TooLarge size) = TooLarge size
 
 -- why an accepted file is not taken for a cut: what cuts of its kind read besides is refused, or it is no cut;
 -- of full and lean cuts the first cannot be

@@ -29,7 +29,7 @@ code_text code =
 
 -- the text of a refusal of a join
 abbrev pub join_error_text : JoinError → List ℕ
-join_error_text (Font which error) = font.error_text error
+join_error_text (Font which error) = font.font_error_text error
 join_error_text (NotACut which) = codes "not a cut: " ++ which_text which
 join_error_text (DifferentTable tag) = codes "different table " ++ tag_text tag
 join_error_text (DifferentMapping code) = codes "different mapping U+" ++ code_text code
@@ -45,7 +45,7 @@ join_all_error_text (At step error) = join_error_text error
 
 -- the number of a refusal of a join
 abbrev pub join_error_number : JoinError → ℕ
-join_error_number (Font which error) = font.error_number error
+join_error_number (Font which error) = font.font_error_number error
 join_error_number (NotACut which) = 20
 join_error_number (DifferentTable tag) = 21
 join_error_number (DifferentMapping code) = 22

@@ -8,16 +8,16 @@ use Rattle.font_theory.specs.Parting.{Tables, frames}
 use Rattle.font_theory.specs.Cut.{content_of_all}
 use Rattle.font_theory.specs.Difference.{difference, has_other_part}
 use Rattle.font_theory.specs.Agreement.{both}
-use Rattle.font_theory.specs.Kinds.{by_variations, divides_tables, format_of, spelled_by}
+use Rattle.font_theory.specs.Kinds.{divides_tables, format_of, spelled_by}
 use Rattle.font_theory.specs.declared.kinds.Kind.{Kind}
-use Rattle.divided_tables.specs.Open.{Made, OpenParts, has_same_parts, replaced}
+use Rattle.divided_tables.specs.DividedTables.{Made, OpenParts, finest, has_same_parts, replaced}
 use Rattle.font_join.specs.Inside.{HoldsFile, IsUnited, Spells}
 use Rattle.font_join.specs.Union.{Held, content_in}
 
 -- a content whose tables have nothing of single glyphs
 abbrev pub framed : Content → Content
 framed K = record {
-  copied = frames by_variations K.copied;
+  copied = frames finest K.copied;
   head = K.head;
   map = K.map;
   outline = K.outline;
@@ -49,7 +49,7 @@ IsOwn kind copied own = divides_tables kind ≡ true → replaced copied own ≡
 
 -- the frames of its tables, where the kind divides tables
 abbrev pub HasFrames : Kind → Tables → Made → Type 0
-HasFrames kind copied made = divides_tables kind ≡ true → replaced copied made ≡ frames by_variations copied
+HasFrames kind copied made = divides_tables kind ≡ true → replaced copied made ≡ frames finest copied
 
 -- K is a content that accepted files of a kind come to, and C is what it is written as
 abbrev pub SpellsIn : Kind → Content → Content → Type 0

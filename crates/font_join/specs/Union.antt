@@ -1,16 +1,16 @@
 -- The union of many files in cut form, this project's own: what is held of it, and its content.
-use Rattle.std.specs.Prelude.{◌≡◌, ℕ, ◌+◌, ◌<◌, ◌≤◌, Bool, false, List, [], ◌∷◌, get_or, length}
+use Rattle.std.specs.Prelude.{◌≡◌, ℕ, ◌+◌, ◌<◌, ◌≤◌, Bool, false, true, List, [], ◌∷◌, get_or, length}
 use Rattle.std.specs.Prelude.{if◌then◌else◌, Option}
 use Rattle.std.specs.Prelude.{None, IfSome}
 use Rattle.std.specs.Option.{unwrap_or}
 use Rattle.sfnt_bytes.specs.declared.directory.TheConstants.{MAX_FILE}
-use Rattle.sfnt_bytes.specs.declared.tag.TheConstants.{GVAR}
 use Rattle.font_glyph.specs.RecordMap.{Records, record_in}
-use Rattle.font_theory.specs.Content.{Content, font_of, table_in_slot}
+use Rattle.font_theory.specs.Content.{Content, plain_font, table_in_slot}
 use Rattle.font_theory.specs.Difference.{are_different}
-use Rattle.font_theory.specs.Kinds.{settings, tables_as, there_by, divides_tables}
+use Rattle.font_theory.specs.Kinds.{divides_tables, settings, tables_of, there_by}
+use Rattle.font_theory.specs.Parting.{may_divide}
 use Rattle.font_theory.specs.declared.kinds.Kind.{Kind}
-use Rattle.divided_tables.specs.Open.{Made, replaced}
+use Rattle.divided_tables.specs.DividedTables.{Made, replaced}
 use Rattle.map_union.specs.RunLists.{TwoLists, map_in}
 
 -- the outline of a glyph in a list
@@ -33,18 +33,18 @@ tables_in kind copied own slot = if divides_tables kind then replaced copied own
 -- its content, as it is written
 abbrev pub content_in : Held → Content
 content_in u = record {
-  copied = tables_in u.kind (tables_as u.kind u.tables) u.own;
-  head = (font_of u.tables).head;
+  copied = tables_in u.kind (tables_of u.kind u.tables) u.own;
+  head = (plain_font u.tables).head;
   map = map_in u.runs;
   outline = listed_outline u.outlines;
   parts = λ _ _. [];
-  there = there_by (settings u.kind) (tables_in u.kind (tables_as u.kind u.tables) u.own)
+  there = there_by (settings u.kind) (tables_in u.kind (tables_of u.kind u.tables) u.own)
       (record_in (listed_outline u.outlines));
 }
 
--- its variation data are no longer than a file
-abbrev pub HasShortData : Held → Type 0
-HasShortData u = length (table_in_slot (content_in u).copied GVAR) ≤ MAX_FILE
+-- no table that may be divided is longer than a file
+abbrev pub HasShortTables : Held → Type 0
+HasShortTables u = (slot : ℕ) → may_divide slot ≡ true → length (table_in_slot (content_in u).copied slot) ≤ MAX_FILE
 
 -- no outline is too large
 abbrev pub AreSmall : List (Option (List ℕ)) → Type 0

@@ -1,8 +1,7 @@
 //! A content without what its tables have of single glyphs, as it is compared with another. This is this project's own.
 ghost use Rattle.std.specs.Prelude.{◌≡◌};
-ghost use Rattle.font_theory.specs.Kinds.{by_variations};
 ghost use Rattle.font_theory.specs.Parting.{frames};
-ghost use Rattle.divided_tables.specs.Open.{replaced};
+ghost use Rattle.divided_tables.specs.DividedTables.{finest, replaced};
 
 use divided_tables::MadeTables;
 use font_map::Run;
@@ -15,14 +14,14 @@ pub(crate) struct Framed<'s, S: Source, A: Allocator> {
     source: &'s S,
     made: &'s MadeTables<A>,
     ghost are: { replaced (S.content_of source.now).copied made.now
-        ≡ frames by_variations (S.content_of source.now).copied },
+        ≡ frames finest (S.content_of source.now).copied },
 }
 
 impl<'s, S: Source, A: Allocator> Framed<'s, S, A> {
     /// Returns a content with these tables, which are the frames of its own.
     pub(crate) fn new(source: &'s S, made: &'s MadeTables<A>) -> Framed<'s, S, A>
         requires { replaced (S.content_of source.now).copied made.now
-            ≡ frames by_variations (S.content_of source.now).copied }
+            ≡ frames finest (S.content_of source.now).copied }
         ensures { result.source.now ≡ source.entry.now }
     {
         Framed { source, made }

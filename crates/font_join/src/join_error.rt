@@ -1,12 +1,12 @@
 //! Why files are not joined.
 ghost use Rattle.std.specs.Prelude.{◌≡◌, Some};
-ghost use Rattle.font_join.specs.Join.{of_file_error};
+ghost use Rattle.font_join.specs.Join.{join_error_of_cut};
 ghost use Rattle.font_join.specs.JoinText.{code_text, join_all_error_number, join_all_error_text, join_all_into_error_number, join_error_number, join_error_text, which_text};
 ghost use Rattle.font_join.specs.declared.join_error.JoinAllIntoError.TheVariants.{NotJoined};
 ghost use Rattle.font_join.specs.declared.join_error.JoinError.TheVariants.{NoMemory as JoinNoMemory};
 
 use font_file::FontError;
-use font_write::FileError;
+use font_write::CutError;
 use sfnt_bytes::{NoMemory, Tag, numbers};
 use std::error::Error;
 use std::fmt;
@@ -80,13 +80,13 @@ impl From<NoMemory> for JoinError {
     }
 }
 
-impl From<FileError> for JoinError {
-    ghost from_gives = { λ held error. error ≡ of_file_error held };
+impl From<CutError> for JoinError {
+    ghost from_gives = { λ held error. error ≡ join_error_of_cut held };
 
-    fn from(error: FileError) -> JoinError {
+    fn from(error: CutError) -> JoinError {
         match error {
-            FileError::NoMemory => JoinError::NoMemory,
-            FileError::TooLarge(size) => JoinError::TooLarge(size),
+            CutError::NoMemory => JoinError::NoMemory,
+            CutError::TooLarge(size) => JoinError::TooLarge(size),
         }
     }
 }

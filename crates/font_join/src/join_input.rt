@@ -3,7 +3,7 @@ ghost use Rattle.std.specs.Prelude.{◌≡◌, Err, None, MatchResult};
 ghost use Rattle.sfnt_bytes.specs.Memory.{IsRefused};
 ghost use Rattle.font_file.specs.Font.{font_fault};
 ghost use Rattle.font_theory.specs.Kinds.{format_of};
-ghost use Rattle.font_join.specs.Inside.{IsFormRefusal, IsNoFont, of_open_error};
+ghost use Rattle.font_join.specs.Inside.{IsFormRefusal, IsNoFont, join_error_of_open};
 ghost use Rattle.font_join.specs.declared.join_error.JoinError.TheVariants.{NoMemory as JoinNoMemory};
 
 use crate::join_error::{JoinError, Which};
@@ -29,7 +29,7 @@ pub(crate) fn open_input<'a>(which: Which, file: &'a [u8]) -> Result<Font<'a>, J
 
 // Returns the refusal of a join one of whose fonts is not opened for cuts of a kind.
 fn unopened(which: Which, error: OpenError) -> JoinError
-    ensures { result ≡ of_open_error which error }
+    ensures { result ≡ join_error_of_open which error }
 {
     match error {
         OpenError::NoMemory => JoinError::NoMemory,

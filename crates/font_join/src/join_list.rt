@@ -6,7 +6,7 @@ ghost use Rattle.font_theory.specs.Cut.{Format};
 ghost use Rattle.font_theory.specs.File.{current_writing, file};
 ghost use Rattle.streams.specs.Outlet.{HasSent, broken_of, fresh_of, writer_of};
 ghost use Rattle.font_join.specs.JoinList.{AllRefusalIsRight, EveryTreeDiffers, IsAllJoined, IsAllRefusal, IsFirst, IsForSizeInto, IsForSizeOf, IsLeastOf, IsSentAs, JoinLaws, SendsAll, StopsJoin};
-ghost use Rattle.font_join.specs.Union.{HasShortData, content_in};
+ghost use Rattle.font_join.specs.Union.{HasShortTables, content_in};
 ghost use Rattle.font_theory.specs.declared.kinds.Kind.TheVariants.{Full};
 ghost use Rattle.font_theory.specs.Kinds.{format_of, spelled_by};
 ghost use Rattle.font_join.specs.KindInside.{IsUnitedIn, HoldsIn};
@@ -24,7 +24,7 @@ use crate::join_input::open_input;
 use crate::union::Union;
 use font_file::Font;
 use font_theory::Kind;
-use font_write::{SendError, file_in_memory, send_whole};
+use font_write::{CutIntoError, file_in_memory, send_whole};
 use sfnt_bytes::Memory;
 use std::alloc::Allocator;
 use std::convert::AsSlice;
@@ -66,7 +66,7 @@ fn joined_with<'f, 'a, A: Memory + Copy>(
     all: Union<'f, 'a, A>,
     y: &'a [u8],
 ) -> Result<Union<'f, 'a, A>, JoinError>
-    requires { HasShortData all }
+    requires { HasShortTables all }
     ensures exact { (kind : Kind) (x : List ℕ) → HoldsIn kind all.entry x → MatchResult result
         (λ union. (z : List ℕ) × IsJoin (format_of kind) x y.now z × HoldsIn kind union z)
         (IsJoinRefusal (format_of kind) x y.now) }
@@ -310,12 +310,14 @@ fn send_all<A: Allocator + Copy, W: Write>(
 {
     match send_whole(all, out) {
         Ok(size) => Ok(size),
-        Err(SendError::WriteFault(written)) => Err(JoinAllIntoError::WriteFault(written)),
+        Err(CutIntoError::WriteFault(written)) => Err(JoinAllIntoError::WriteFault(written)),
         // A join that is too large has been refused before.
-        Err(SendError::TooLarge(size)) => {
+        Err(CutIntoError::TooLarge(size)) => {
             let error = JoinError::TooLarge(size);
             Err(JoinAllIntoError::NotJoined(JoinAllError::At { step, error }))
         }
+        // Sending asks for no memory.
+        Err(CutIntoError::NoMemory) => unreachable!(),
     }
 }
 

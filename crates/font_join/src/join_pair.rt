@@ -5,11 +5,11 @@ ghost use Rattle.sfnt_bytes.specs.declared.directory.TheConstants.{MAX_FILE};
 ghost use Rattle.sfnt_bytes.specs.declared.tag.Tag.{Tag};
 ghost use Rattle.font_file.specs.Font.{font_fault};
 ghost use Rattle.font_theory.specs.Content.{Content, Wanted, content, everything};
-ghost use Rattle.font_theory.specs.Cut.{IsCut, Writes, either, renewed};
+ghost use Rattle.font_theory.specs.Cut.{IsCut, Writes, either_wanted, renewed};
 ghost use Rattle.font_theory.specs.declared.kinds.Kind.TheVariants.{Full};
 ghost use Rattle.font_theory.specs.Kinds.{fault_of, format_of};
-ghost use Rattle.font_subset.specs.CutOfKind.{cut_in};
-ghost use Rattle.font_subset.specs.CutOfFont.{IsCutOf, cut_of};
+ghost use Rattle.font_subset.specs.CutOfKind.{cut_of};
+ghost use Rattle.font_subset.specs.CutOfFont.{IsCutOf, full_cut};
 ghost use Rattle.font_join.specs.Join.{IsForSize, IsJoin, IsJoinRefusal, IsLeastUpper, RefusalIsRight};
 ghost use Rattle.font_join.specs.declared.join_error.JoinError.TheVariants.{NoMemory as JoinNoMemory, TableTooLong};
 
@@ -54,9 +54,9 @@ pub fn join_of_kind<A: Memory + Copy>(
         Writes (format_of kind) (content ((format_of kind).font F) A) x.now →
         Writes (format_of kind) (content ((format_of kind).font F) B) y.now →
         length x.now ≤ MAX_FILE → length y.now ≤ MAX_FILE →
-        MatchResult result (λ z. z.items ≡ cut_in kind F (either A B))
-        (IsForSize (length (cut_in kind F (either A B)))) }
-    ensures itself { fault_of kind x.now ≡ None → cut_in kind x.now everything ≡ x.now → y.now ≡ x.now →
+        MatchResult result (λ z. z.items ≡ cut_of kind F (either_wanted A B))
+        (IsForSize (length (cut_of kind F (either_wanted A B)))) }
+    ensures itself { fault_of kind x.now ≡ None → cut_of kind x.now everything ≡ x.now → y.now ≡ x.now →
         MatchResult result (λ z. z.items ≡ x.now) (λ error. error ≡ JoinError.NoMemory) }
     ensures renewal { IsCut (format_of kind) x.now → y.now ≡ x.now →
         MatchResult result (λ z. z.items ≡ renewed (format_of kind) x.now)
@@ -93,9 +93,9 @@ pub fn join<A: Memory + Copy>(alloc: A, x: &[u8], y: &[u8]) -> Result<Vec<u8, A>
         (IsJoinRefusal (format_of Full) x.now y.now) }
     ensures cuts { (F : List ℕ) (A B : ℕ → Bool) → font_fault F ≡ None → IsCutOf F A x.now →
         IsCutOf F B y.now → length x.now ≤ MAX_FILE → length y.now ≤ MAX_FILE →
-        MatchResult result (λ z. z.items ≡ cut_of F (λ c. A c || B c))
-        (IsForSize (length (cut_of F (λ c. A c || B c)))) }
-    ensures itself { font_fault x.now ≡ None → cut_of x.now (λ _. true) ≡ x.now → y.now ≡ x.now →
+        MatchResult result (λ z. z.items ≡ full_cut F (λ c. A c || B c))
+        (IsForSize (length (full_cut F (λ c. A c || B c)))) }
+    ensures itself { font_fault x.now ≡ None → full_cut x.now (λ _. true) ≡ x.now → y.now ≡ x.now →
         MatchResult result (λ z. z.items ≡ x.now) (λ error. error ≡ JoinError.NoMemory) }
     ensures renewal { IsCut (format_of Full) x.now → y.now ≡ x.now →
         MatchResult result (λ z. z.items ≡ renewed (format_of Full) x.now)

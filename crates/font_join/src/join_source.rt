@@ -1,7 +1,7 @@
 //! The union of two fonts in cut form, of which a join is made. It is this project's own.
 ghost use Rattle.std.specs.Prelude.{◌≡◌, Err, None, MatchResult};
 ghost use Rattle.sfnt_bytes.specs.Memory.{IsRefused};
-ghost use Rattle.font_theory.specs.Content.{content, everything, font_of};
+ghost use Rattle.font_theory.specs.Content.{content, everything, plain_font};
 ghost use Rattle.font_theory.specs.Cut.{content_of_all};
 ghost use Rattle.font_theory.specs.Agreement.{both};
 ghost use Rattle.font_join.specs.Join.{IsUnionRefusal, union_fault};
@@ -31,7 +31,8 @@ impl<'a, A: Memory + Copy> Union<'a, 'a, A> {
     /// of the second, `DifferentTable`, `DifferentMapping`, `DifferentGlyph` and `TableTooLong` that applies.
     pub fn new(alloc: A, x: &'a Font<'a>, y: &'a Font<'a>) -> Result<Joined<'a, A>, JoinError>
         ensures exact { MatchResult result (λ joined. (content_in joined
-            ≡ both (content (font_of x.entry.now) everything) (content (font_of y.entry.now) everything))
+            ≡ both (content (plain_font x.entry.now) everything)
+            (content (plain_font y.entry.now) everything))
             × (union_fault (format_of Full) x.entry.now y.entry.now ≡ None))
             (IsUnionRefusal (format_of Full) x.entry.now y.entry.now) }
         ensures memory { result ≡ Err JoinNoMemory → IsRefused A.refuses }

@@ -5,7 +5,7 @@ ghost use Rattle.sfnt_bytes.specs.Memory.{IsRefused};
 ghost use Rattle.sfnt_bytes.specs.declared.directory.TheConstants.{MAX_FILE};
 ghost use Rattle.font_theory.specs.Content.{content, everything};
 ghost use Rattle.font_theory.specs.Cut.{IsCut};
-ghost use Rattle.font_theory.specs.Kinds.{font_as, format_of};
+ghost use Rattle.font_theory.specs.Kinds.{font_of, format_of};
 ghost use Rattle.font_join.specs.Inside.{IsFormRefusal};
 ghost use Rattle.font_join.specs.declared.join_error.JoinError.TheVariants.{NoMemory as JoinNoMemory};
 ghost use Rattle.font_subset.specs.ListedRuns.{AreRunsOf};
@@ -69,9 +69,9 @@ impl<'f, 'a, A: Memory + Copy> Listed<'f, 'a, A> {
 
 impl<'f, 'a, A: Allocator> Source for Listed<'f, 'a, A> {
     ghost use Rattle.font_theory.specs.Content.{content, everything};
-    ghost use Rattle.font_theory.specs.Kinds.{font_as};
+    ghost use Rattle.font_theory.specs.Kinds.{font_of};
 
-    ghost content_of = { λ file. content (font_as file.0 file.1) everything };
+    ghost content_of = { λ file. content (font_of file.0 file.1) everything };
 
     fn recall_laws(&self) {
         self.font.recall_laws();
@@ -127,8 +127,8 @@ impl<'f, 'a, A: Allocator> Listed<'f, 'a, A> {
     pub(crate) fn written_outline(&self, g: u16) -> Option<&'a [u8]>
         requires { IsCut (format_of self.now.0) self.now.1 }
         ensures outline { MatchOption result
-            ((content (font_as self.now.0 self.now.1) everything).outline g ≡ None)
-            (λ b. (content (font_as self.now.0 self.now.1) everything).outline g ≡ Some b.now) }
+            ((content (font_of self.now.0 self.now.1) everything).outline g ≡ None)
+            (λ b. (content (font_of self.now.0 self.now.1) everything).outline g ≡ Some b.now) }
         ensures small { MatchOption result Unit (λ b. length b.now ≤ MAX_FILE) }
     {
         self.font.written_outline(g)

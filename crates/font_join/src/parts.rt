@@ -2,21 +2,22 @@
 ghost use Rattle.std.specs.Prelude.{◌≡◌, ◌<◌, find};
 ghost use Rattle.std.specs.List.{range_with_len};
 ghost use Rattle.font_theory.specs.Content.{glyph_count};
+ghost use Rattle.divided_tables.specs.DividedTables.{count_in};
 ghost use Rattle.font_join.specs.KindInside.{has_others};
 
 use divided_tables::OpenTables;
 use font_write::Source;
 
 // Returns whether two contents keep a glyph with another part.
-fn has_others<K: Source, L: Source>(
+fn has_others<'t, K: Source, L: Source>(
     k: &K,
     l: &L,
-    first: &OpenTables<'_, '_>,
-    second: &OpenTables<'_, '_>,
+    first: &OpenTables<'t>,
+    second: &OpenTables<'t>,
     g: u16,
 ) -> bool
-    requires first { g < first.now.across.count }
-    requires second { g < second.now.across.count }
+    requires first { g < count_in first.now }
+    requires second { g < count_in second.now }
     ensures { result ≡ has_others (K.content_of k.now) (L.content_of l.now) first.now second.now g }
 {
     k.keeps(g) && l.keeps(g) && !first.is_same(second, g)
@@ -24,14 +25,14 @@ fn has_others<K: Source, L: Source>(
 
 /// Returns the first glyph that two contents, of which these are the tables, keep with another part, sought among those
 /// that the second keeps.
-pub(crate) fn different_part<K: Source, L: Source>(
+pub(crate) fn different_part<'t, K: Source, L: Source>(
     k: &K,
     l: &L,
-    first: &OpenTables<'_, '_>,
-    second: &OpenTables<'_, '_>,
+    first: &OpenTables<'t>,
+    second: &OpenTables<'t>,
 ) -> Option<u16>
-    requires first { first.now.across.count ≡ glyph_count (L.content_of l.now).copied }
-    requires second { second.now.across.count ≡ glyph_count (L.content_of l.now).copied }
+    requires first { count_in first.now ≡ glyph_count (L.content_of l.now).copied }
+    requires second { count_in second.now ≡ glyph_count (L.content_of l.now).copied }
     ensures { result ≡ find (has_others (K.content_of k.now) (L.content_of l.now) first.now second.now)
         (range_with_len 0 (glyph_count (K.content_of k.now).copied)) }
 {

@@ -7,7 +7,7 @@ ghost use Rattle.font_glyph.specs.RecordMap.{union_of};
 ghost use Rattle.font_tables.specs.Fields.{glyph_count_of};
 ghost use Rattle.font_theory.specs.Content.{content, everything};
 ghost use Rattle.font_theory.specs.Cut.{IsCut};
-ghost use Rattle.font_theory.specs.Kinds.{font_as, format_of};
+ghost use Rattle.font_theory.specs.Kinds.{font_of, format_of};
 ghost use Rattle.font_join.specs.Union.{HaveLength, is_other, listed_outline};
 ghost use Rattle.font_join.specs.Inside.{AreTaken};
 
@@ -64,7 +64,7 @@ impl<'a, A: Memory + Copy> Outlines<'a, A> {
         requires { IsCut (format_of file.now.0) file.now.1 }
         ensures count { IfOk result (λ outlines. length outlines ≡ glyph_count_of file.now.1) }
         ensures outlines { IfOk result (λ outlines. (g : ℕ) → listed_outline outlines g
-            ≡ (content (font_as file.now.0 file.now.1) everything).outline g) }
+            ≡ (content (font_of file.now.0 file.now.1) everything).outline g) }
         ensures memory { OnErr result (IsRefused A.refuses) }
     {
         let count = file.glyph_count();
@@ -118,10 +118,10 @@ impl<'a, A: Allocator> Outlines<'a, A> {
         requires form { IsCut (format_of file.now.0) file.now.1 }
         requires within { g < length self.old }
         ensures differs { result ≡ is_other (listed_outline self.old)
-            (content (font_as file.now.0 file.now.1) everything).outline g }
+            (content (font_of file.now.0 file.now.1) everything).outline g }
         ensures count { length self.new ≡ length self.old }
         ensures taken { listed_outline self.new g ≡ union_of (listed_outline self.old)
-            (content (font_as file.now.0 file.now.1) everything).outline g }
+            (content (font_of file.now.0 file.now.1) everything).outline g }
         ensures others { (h : ℕ) → h ≢ g → listed_outline self.new h ≡ listed_outline self.old h }
     {
         let Some(outline) = file.written_outline(g) else {
@@ -140,9 +140,9 @@ impl<'a, A: Allocator> Outlines<'a, A> {
         requires form { IsCut (format_of file.now.0) file.now.1 }
         requires count { length self.old ≡ count }
         ensures differs { result ≡ find (is_other (listed_outline self.old)
-            (content (font_as file.now.0 file.now.1) everything).outline) (range_with_len 0 count) }
+            (content (font_of file.now.0 file.now.1) everything).outline) (range_with_len 0 count) }
         ensures taken { result ≡ None → AreTaken self.old self.new
-            (content (font_as file.now.0 file.now.1) everything).outline count }
+            (content (font_of file.now.0 file.now.1) everything).outline count }
     {
         let end = count.min(file.glyph_count());
         let mut g = file.next_kept(0);

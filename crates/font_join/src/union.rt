@@ -9,11 +9,11 @@ ghost use Rattle.font_theory.specs.Bytes.{padded};
 ghost use Rattle.font_theory.specs.Content.{Content, content, everything};
 ghost use Rattle.font_theory.specs.Cut.{IsCut, content_of_all};
 ghost use Rattle.font_theory.specs.File.{current_writing, file};
-ghost use Rattle.font_theory.specs.Kinds.{font_as, format_of};
+ghost use Rattle.font_theory.specs.Kinds.{font_of, format_of};
 ghost use Rattle.font_theory.specs.declared.kinds.Kind.{Kind};
 ghost use Rattle.font_write.specs.WholeFile.{IsTooLarge};
-ghost use Rattle.font_join.specs.Union.{HasShortData, content_in};
-ghost use Rattle.divided_tables.specs.Open.{HasFineGvar};
+ghost use Rattle.font_join.specs.Union.{HasShortTables, content_in};
+ghost use Rattle.divided_tables.specs.DividedTables.{AreFine};
 ghost use Rattle.font_join.specs.Inside.{IsAddRefusal, IsFormRefusal, add_fault, early_difference};
 ghost use Rattle.font_join.specs.KindInside.{HasFrames, IsGrown, IsOwn, SpellsIn, least_of, parts_told};
 ghost use Rattle.font_join.specs.declared.join_error.JoinError.TheVariants.{NoMemory as JoinNoMemory};
@@ -27,7 +27,7 @@ use crate::listed::Listed;
 use crate::parts::different_part;
 use crate::taken_outlines::Outlines;
 use crate::without_codes::size_if_too_large;
-use divided_tables::{MadeTables, OpenTables, gvar_of_both, open_variations};
+use divided_tables::{MadeTables, OpenTables};
 use font_file::Font;
 use font_map::Run;
 use font_subset::{FontOfKind, head};
@@ -70,7 +70,7 @@ fn frames_for_kind<S: Source, A: Memory + Copy>(
     kind: Kind,
     source: &S,
 ) -> Result<MadeTables<A>, NoMemory>
-    requires { HasFineGvar (S.content_of source.now).copied }
+    requires { AreFine (S.content_of source.now).copied }
     ensures tables { IfOk result (HasFrames kind (S.content_of source.now).copied) }
     ensures memory { OnErr result (IsRefused A.refuses) }
 {
@@ -224,16 +224,15 @@ impl<'f, 'a, A: Memory + Copy> Union<'f, 'a, A> {
         requires form { IsCut (format_of self.now.kind) file.now.1 }
         requires early { (K : Content) → SpellsIn self.now.kind (content_in self.now) K →
             early_difference K (content_of_all (format_of self.now.kind) file.now.1) ≡ None }
-        requires small { HasShortData self.now }
+        requires small { HasShortTables self.now }
         ensures { (K : Content) → SpellsIn self.now.kind (content_in self.now) K →
             result ≡ parts_told K (content_of_all (format_of self.now.kind) file.now.1) }
     {
         if !self.first.kind().divides_tables() {
             return None;
         }
-        let variations = (open_variations(self), open_variations(file));
-        let first = OpenTables::of(self, &variations.0);
-        let second = OpenTables::of(file, &variations.1);
+        let first = OpenTables::of(self);
+        let second = OpenTables::of(file);
         different_part(self, file, &first, &second)
     }
 
@@ -255,7 +254,7 @@ impl<'f, 'a, A: Memory + Copy> Union<'f, 'a, A> {
         requires form { IsCut (format_of self.kind) file.1 }
         requires early { (K : Content) → SpellsIn self.kind (content_in self) K →
             early_difference K (content_of_all (format_of self.kind) file.1) ≡ None }
-        requires small { HasShortData self }
+        requires small { HasShortTables self }
         ensures exact { (K : Content) → SpellsIn self.entry.kind (content_in self.entry) K → MatchResult result
             (IsGrown self.entry.kind file.entry.1 K)
             (IsAddRefusal (format_of self.entry.kind) K file.entry.1) }
@@ -263,7 +262,7 @@ impl<'f, 'a, A: Memory + Copy> Union<'f, 'a, A> {
     {
         let parts = self.other_parts(&file);
         let misfit = self.misfit(&file);
-        let gvar = gvar_of_both(alloc, &self, &file)?;
+        let made = MadeTables::united(alloc, &self, &file)?;
         let count = self.first.font().tables().glyph_count();
         let Union {
             first,
@@ -276,7 +275,7 @@ impl<'f, 'a, A: Memory + Copy> Union<'f, 'a, A> {
         if let Some(error) = late_refusal(least(parts, other), misfit) {
             return Err(error);
         }
-        let own = own.laid_over(&file, gvar);
+        let own = own.laid_over(&file, made);
         let runs = file.into_runs(alloc)?;
         let map = map.with(alloc, runs)?;
         Ok(Union {
@@ -327,7 +326,7 @@ impl<'f, 'a, A: Memory + Copy> Union<'f, 'a, A> {
     /// `Font` of the second where its tables of layout or of variations are refused, `NotACut` of the second, the
     /// first difference, a table that has no room, or `NoMemory`.
     pub(crate) fn add(self, alloc: A, font: &Font<'a>) -> Result<Union<'f, 'a, A>, JoinError>
-        requires { HasShortData self }
+        requires { HasShortTables self }
         ensures exact { (kind : Kind) (K : Content) → self.entry.kind ≡ kind
             → SpellsIn kind (content_in self.entry) K →
             MatchResult result

@@ -6,5 +6,4 @@ pub mod Laws
 pub mod Layout
 pub mod Rule
 pub mod Steps
-pub mod Text
 pub mod Worked

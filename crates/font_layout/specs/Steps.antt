@@ -7,7 +7,7 @@ use Rattle.std.specs.Option.{option_map, option_and_then, option_map_or, unwrap_
 use Rattle.sfnt_bytes.specs.Number.{u16_at, u32_at}
 use Rattle.font_layout.specs.Counted.{counted}
 use Rattle.font_layout.specs.Coverage.{coverage_at, no_coverage, span_at}
-use Rattle.font_layout.specs.Rule.{entry_at, entry_step, rule_at}
+use Rattle.font_layout.specs.Rule.{entry_step, rule_at, rule_entry}
 use Rattle.font_layout.specs.declared.coverage.Span.{Span}
 use Rattle.font_layout.specs.declared.lookup.Lookup.{Lookup}
 use Rattle.font_layout.specs.declared.rule.Rule.{Rule}
@@ -20,14 +20,14 @@ use Rattle.font_layout.specs.declared.step.Step.TheVariants.{Part, Fault}
 abbrev pub each_below : ℕ → (ℕ → List Step) → List Step
 each_below n steps = flat_map steps (range_with_len 0 n)
 
--- a step for what is gone into, with the offsets that lead to it, and those within; a fault where it is not there
-abbrev pub within : {X : Type 0} → Option X → (X → ℕ) → (X → List Step) → List Step
-within there offsets steps = option_map_or (λ x. Part (offsets x) ∷ steps x) there (Fault ∷ [])
+-- a step for what is gone into, with the offsets that lead to it, and those steps_within; a fault where it is not there
+abbrev pub steps_within : {X : Type 0} → Option X → (X → ℕ) → (X → List Step) → List Step
+steps_within there offsets steps = option_map_or (λ x. Part (offsets x) ∷ steps x) there (Fault ∷ [])
 
 -- glyph k of a span, with the offsets of its entry, and what its entry leads to
 unfoldable pub glyph_steps : List ℕ → Rule → Span → ℕ → List Step
 glyph_steps table rule span k =
-    let entry = entry_at table rule (span.first + k) (span.index + k) in
+    let entry = rule_entry table rule (span.first + k) (span.index + k) in
     Part (1 + entry.offsets) ∷ map (entry_step table (span.first + k) entry.form) (range_with_len 0 entry.count)
 
 -- span k of the Coverage of a subtable
@@ -62,8 +62,8 @@ extension_subtable table at =
     else plain_subtable table (u16_at table (at + 2)) (at + u32_at table (at + 4)) 2
 
 -- the subtable of a type at an offset from its lookup
-unfoldable pub subtable_at : List ℕ → ℕ → ℕ → ℕ → Option Subtable
-subtable_at table kind base offset =
+unfoldable pub offset_subtable : List ℕ → ℕ → ℕ → ℕ → Option Subtable
+offset_subtable table kind base offset =
     if nat_eq offset 0 then Some (no_subtable 1)
     else if nat_eq kind 7 then extension_subtable table (base + offset)
     else plain_subtable table kind (base + offset) 1
@@ -71,7 +71,7 @@ subtable_at table kind base offset =
 -- subtable k of a lookup
 unfoldable pub subtable_steps : List ℕ → Lookup → ℕ → List Step
 subtable_steps table lookup k =
-    within (subtable_at table lookup.kind lookup.at (u16_at table (lookup.at + 6 + 2 * k)))
+    steps_within (offset_subtable table lookup.kind lookup.at (u16_at table (lookup.at + 6 + 2 * k)))
     (λ subtable. subtable.offsets)
     (λ subtable. each_below subtable.coverage.count (span_steps table subtable))
 
@@ -87,7 +87,7 @@ lookup_at table base offset =
 -- lookup k of the list at a place
 unfoldable pub lookup_steps : List ℕ → ℕ → ℕ → List Step
 lookup_steps table base k =
-    within (lookup_at table base (u16_at table (base + 2 + 2 * k))) (λ _. 1)
+    steps_within (lookup_at table base (u16_at table (base + 2 + 2 * k))) (λ _. 1)
     (λ lookup. each_below lookup.count (subtable_steps table lookup))
 
 -- the lookup list: none where lookupListOffset is 0

@@ -21,6 +21,6 @@ pub use crate::cleaning::fixed_table;
 pub use crate::laws::{
     leads_are_links, leads_are_listed, step_limit_is, worked_links, worked_refusals,
 };
-pub use crate::layout::{BadLayout, Layout, STEP_LIMIT};
+pub use crate::layout::{Layout, STEP_LIMIT};
 pub use crate::links::Links;
 pub use crate::step::Link;

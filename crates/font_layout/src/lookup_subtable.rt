@@ -1,6 +1,6 @@
 //! Subtables of lookups. OpenType 1.9, GSUB, Lookup types.
 ghost use Rattle.std.specs.Prelude.{◌≡◌, ◌+◌, ◌≤◌, ◌<◌, ◌^◌, IfSome, length};
-ghost use Rattle.font_layout.specs.Steps.{extension_subtable, no_subtable as empty_subtable, plain_subtable, subtable_at};
+ghost use Rattle.font_layout.specs.Steps.{extension_subtable, no_subtable as empty_subtable, plain_subtable, offset_subtable};
 ghost use Rattle.font_layout.specs.Inside.{HasSubtable};
 
 use crate::coverage::{Coverage, NO_COVERAGE, read_coverage};
@@ -68,10 +68,10 @@ fn read_extension(table: &[u8], at: usize) -> Option<Subtable>
 }
 
 /// Returns the subtable of a type at an offset from its lookup.
-#[tactic(auto, unfolding(crate::specs::Steps::subtable_at))]
+#[tactic(auto, unfolding(crate::specs::Steps::offset_subtable))]
 pub(crate) fn read_subtable(table: &[u8], kind: u16, base: usize, offset: u16) -> Option<Subtable>
     requires { base ≤ length table.now }
-    ensures value { result ≡ subtable_at table.now kind base offset }
+    ensures value { result ≡ offset_subtable table.now kind base offset }
     ensures room { IfSome result (HasSubtable table.now) }
 {
     if offset == 0 {

@@ -4,11 +4,11 @@ use Rattle.font_map.specs.declared.mapping.MapError.{MapError}
 use Rattle.font_map.specs.declared.mapping.MapError.TheVariants.{NoMapping, BadCmap}
 
 -- the text of a refusal of a `cmap`
-abbrev pub error_text : MapError → List ℕ
-error_text NoMapping = codes "no mapping"
-error_text BadCmap = codes "bad cmap"
+abbrev pub map_error_text : MapError → List ℕ
+map_error_text NoMapping = codes "no mapping"
+map_error_text BadCmap = codes "bad cmap"
 
 -- its number
-abbrev pub error_number : MapError → ℕ
-error_number NoMapping = 13
-error_number BadCmap = 14
+abbrev pub map_error_number : MapError → ℕ
+map_error_number NoMapping = 13
+map_error_number BadCmap = 14

@@ -1,6 +1,6 @@
 //! The texts and numbers of refusals, byte for byte as `check` prints them.
 ghost use Rattle.std.specs.Prelude.{◌≡◌, Some};
-ghost use Rattle.font_map.specs.Text.{error_number, error_text};
+ghost use Rattle.font_map.specs.Text.{map_error_number, map_error_text};
 
 use crate::mapping::MapError;
 use sfnt_bytes::numbers;
@@ -8,7 +8,7 @@ use std::error::Error;
 use std::fmt;
 
 impl fmt::Display for MapError {
-    ghost output = { λ e. Some (error_text e) };
+    ghost output = { λ e. Some (map_error_text e) };
 
     fn fmt<W: fmt::Write>(&self, f: &mut fmt::Formatter<W>) -> fmt::Result {
         match self {
@@ -23,7 +23,7 @@ impl Error for MapError {}
 impl MapError {
     /// Returns the number of the refusal, 13 or 14.
     pub fn number(&self) -> u8
-        ensures { result ≡ error_number self.now }
+        ensures { result ≡ map_error_number self.now }
     {
         match self {
             MapError::NoMapping => numbers::NO_MAPPING,

@@ -17,27 +17,27 @@ use Rattle.font_layout.specs.Layout.{kept_in, leads_of, links_in}
 use Rattle.font_layout.specs.Steps.{lookup_list, steps_in}
 use Rattle.font_theory.specs.Closed.{NUMBERS, closed, is_bad_layout_in, is_start}
 use Rattle.codes.specs.CharacterMap.{restricted}
-use Rattle.font_theory.specs.Content.{Font, Wanted, font_of, glyph_count, is_kept, is_root, is_seed}
-use Rattle.font_theory.specs.Kinds.{fault_of, format_by, format_of, gsub_as, settings, tables_as}
-use Rattle.font_theory.specs.Links.{is_bad_layout, links}
+use Rattle.font_theory.specs.Content.{Font, Wanted, glyph_count, is_kept, is_root, is_seed, plain_font}
+use Rattle.font_theory.specs.Kinds.{fault_of, format_by, format_of, gsub_bytes, settings, tables_of}
+use Rattle.font_theory.specs.Links.{is_unreadable_gsub, links}
 use Rattle.font_theory.specs.declared.kinds.Kind.{Kind}
 use Rattle.font_theory.proofs.ClosedLemmas.{closed-decides, closed-has}
 use Rattle.font_theory.proofs.ContentLemmas.{content-kept, content-mapped}
 use Rattle.font_theory.proofs.KindLemmas.{kind_is}
 use Rattle.font_theory.proofs.SettingsLemmas.{there-low}
 use Rattle.codes.specs.declared.code_range.CodeRange.{CodeRange}
-use Rattle.font_subset.specs.KeptGlyphs.{asked, glyphs_wanted, wanted_in, written_of}
+use Rattle.font_subset.specs.KeptGlyphs.{asked, glyphs_wanted, wanted_in, written_content}
 use Rattle.font_theory.specs.File.{file, current_writing}
 use Rattle.font_subset.proofs.CutLemmas.{cut_in_is}
 use Rattle.font_subset.proofs.SourceLemmas.{Held}
-use Rattle.font_subset.specs.CutOfKind.{closed_of, cut_as, cut_in, in_file, wanted_with}
+use Rattle.font_subset.specs.CutOfKind.{closed_if, closed_of, cut_of, in_file, opened_font_cut}
 use Rattle.font_subset.specs.Inside.{AreClosedMarks, AreLinksOf, AreNumbered, AreStarts, IsSeedSet}
 use Rattle.font_subset.specs.Inside.{is_beyond}
 use Rattle.font_subset.proofs.SourceLemmas.{count_as}
 
 -- the links of no table
-nothing_bad : is_bad_layout [] ≡ false
-unfolding is_bad_layout
+nothing_bad : is_unreadable_gsub [] ≡ false
+unfolding is_unreadable_gsub
 nothing_bad = refl
 
 nothing_linked : (g : ℕ) → links [] g ≡ []
@@ -45,7 +45,7 @@ unfolding links leads_of kept_in links_in steps_in lookup_list
 nothing_linked g = refl
 
 pub empty_links : (gsub : List ℕ) (listed : List (List ℕ)) → length gsub ≡ 0 → listed ≡ []
-    → (is_bad_layout gsub ≡ false) × AreLinksOf gsub listed
+    → (is_unreadable_gsub gsub ≡ false) × AreLinksOf gsub listed
 empty_links [] listed none nothing = (
   nothing_bad,
   record {
@@ -57,10 +57,11 @@ empty_links [] listed none nothing = (
 empty_links (x ∷ gsub) listed none nothing = absurd (omega (arith, none))
 
 -- a `GSUB` that can be read, or not
-pub bad_links : (kind : Kind) (file gsub : List ℕ) (bad : Bool) → gsub ≡ gsub_as kind file → is_bad_layout gsub ≡ bad
-    → is_bad_layout_in (tables_as kind file) ≡ bad
+pub bad_links : (kind : Kind) (file gsub : List ℕ) (bad : Bool) → gsub ≡ gsub_bytes kind file
+    → is_unreadable_gsub gsub ≡ bad
+    → is_bad_layout_in (tables_of kind file) ≡ bad
 unfolding is_bad_layout_in
-bad_links kind file gsub bad same is = ap is_bad_layout (sym same) ∙ is
+bad_links kind file gsub bad same is = ap is_unreadable_gsub (sym same) ∙ is
 
 -- where links begin is marked
 pub starts : (file : List ℕ) (W : Wanted) (seeds marks : List Bool) (n : ℕ) → n ≡ glyph_count_of file
@@ -72,7 +73,7 @@ starts file W seeds marks n size is more = record {
 
 -- what is marked by what links lead to from there is closed
 pub closed_marked : (kind : Kind) (file : List ℕ) (W : Wanted) (listed : List (List ℕ)) (from marks : List Bool)
-    (n : ℕ) → n ≡ glyph_count_of file → AreLinksOf (gsub_as kind file) listed → AreStarts file W from
+    (n : ℕ) → n ≡ glyph_count_of file → AreLinksOf (gsub_bytes kind file) listed → AreStarts file W from
     → length marks ≡ n
     → ((g : ℕ) → has marks g ≡ true ↔ (g < n) × Linked (λ h. get_or listed h []) (has from) numbers.NUMBERS g)
     → AreClosedMarks kind file W marks
@@ -80,13 +81,13 @@ unfolding NUMBERS
 closed_marked kind file W listed from marks n size are is count found = record {
   count = count ∙ size;
   glyphs = λ g low.
-      let decided = closed-decides (links (gsub_as kind file)) (map_of file) (in_file file W) g in
+      let decided = closed-decides (links (gsub_bytes kind file)) (map_of file) (in_file file W) g in
       let begin : has from ≡ is_start (map_of file) (in_file file W) = fun_ext is.starts in
-      let leads : (λ h. get_or listed h []) ≡ links (gsub_as kind file) = fun_ext are.each in
+      let leads : (λ h. get_or listed h []) ≡ links (gsub_bytes kind file) = fun_ext are.each in
       let P : (ℕ → List ℕ) → (ℕ → Bool) → Type 0 = λ l s. Linked l s numbers.NUMBERS g in
-      let to : P (λ h. get_or listed h []) (has from) → P (links (gsub_as kind file))
+      let to : P (λ h. get_or listed h []) (has from) → P (links (gsub_bytes kind file))
       (is_start (map_of file) (in_file file W)) = λ r. subst (λ (X : Type 0). X) (λ i. P (leads i) (begin i)) r in
-      let back : P (links (gsub_as kind file)) (is_start (map_of file) (in_file file W))
+      let back : P (links (gsub_bytes kind file)) (is_start (map_of file) (in_file file W))
       → P (λ h. get_or listed h []) (has from) = λ r.
       subst (λ (X : Type 0). X) (sym (λ i. P (leads i) (begin i))) r in
       both_ways (has marks g) _ (λ h. decided.1 (to ((found g).0 h).1))
@@ -125,10 +126,10 @@ module _ (kind : Kind) (file : List ℕ) (codes glyphs : ℕ → Bool) (W : Want
   unfolding format_by
   low g there =
       lt-ltb g (glyph_count_of file) (subst (λ (n : ℕ). g < n) (sym (count_as kind file))
-      (there-low (settings kind) (tables_as kind file) (font_of file).outline g there))
+      (there-low (settings kind) (tables_of kind file) (plain_font file).outline g there))
 
   begun : (g : ℕ) → is_start (map_of file) (in_file file W) g ≡ true → (closed_of kind file W).glyphs g ≡ true
-  begun g h = (closed-decides (links (gsub_as kind file)) (map_of file) (in_file file W) g).1 (start h)
+  begun g h = (closed-decides (links (gsub_bytes kind file)) (map_of file) (in_file file W) g).1 (start h)
 
   same_roots : (g : ℕ) → is_root F asked_for g ≡ is_root F (closed_of kind file W) g
   unfolding format_by is_root is_start closed
@@ -137,7 +138,7 @@ module _ (kind : Kind) (file : List ℕ) (codes glyphs : ℕ → Bool) (W : Want
       ∙ same_root (is_seed (restricted W.codes (map_of file)) g) (W.glyphs g) (nat_lt g (glyph_count_of file))
       ((closed_of kind file W).glyphs g) (F.there g) (low g) (begun g)
 
-  pub closed_same : cut_in kind file asked_for ≡ cut_in kind file (closed_of kind file W)
+  pub closed_same : cut_of kind file asked_for ≡ cut_of kind file (closed_of kind file W)
   unfolding format_by closed is_kept
   closed_same =
       ap (format_of kind).file (content-kept F asked_for (closed_of kind file W)
@@ -146,7 +147,7 @@ module _ (kind : Kind) (file : List ℕ) (codes glyphs : ℕ → Bool) (W : Want
 
 -- all glyphs have their closure
 all_same : (kind : Kind) (file : List ℕ) (ranges : Option (List CodeRange)) → fault_of kind file ≡ None
-    → cut_in kind file (wanted_in (asked ranges None)) ≡ cut_in kind file (closed_of kind file (wanted_in (asked
+    → cut_of kind file (wanted_in (asked ranges None)) ≡ cut_of kind file (closed_of kind file (wanted_in (asked
     ranges None)))
 unfolding format_by closed
 all_same kind file ranges accepted =
@@ -154,9 +155,9 @@ all_same kind file ranges accepted =
     ap (format_of kind).file (content-mapped ((format_of kind).font file) W (closed_of kind file W)
     ((kind_is kind).law.is_font file ((kind_is kind).fault_is file ∙ accepted))
     (λ c mapped. refl)
-    (λ g there. sym (closed-has (links (gsub_as kind file)) (map_of file) (in_file file W) g
+    (λ g there. sym (closed-has (links (gsub_bytes kind file)) (map_of file) (in_file file W) g
     (lt-ltb g (glyph_count_of file) (subst (λ (n : ℕ). g < n) (sym (count_as kind file))
-    (there-low (settings kind) (tables_as kind file) (font_of file).outline g there))))))
+    (there-low (settings kind) (tables_of kind file) (plain_font file).outline g there))))))
 
 -- of an opened font
 module _ (font : Kind × (List ℕ × Bool)) (ranges : Option (List CodeRange)) (accepted : fault_of font.0 font.1.0 ≡ None)
@@ -165,47 +166,48 @@ module _ (font : Kind × (List ℕ × Bool)) (ranges : Option (List CodeRange)) 
     with_numbers numbers = wanted_in (asked ranges numbers)
 
     closed_or_not : (closes : Bool) (numbers : Option (List ℕ)) → font.1.1 ≡ closes
-        → cut_in font.0 font.1.0 (wanted_with closes font.0 font.1.0 (with_numbers numbers))
-        ≡ cut_as font (with_numbers numbers)
+        → cut_of font.0 font.1.0 (closed_if closes font.0 font.1.0 (with_numbers numbers))
+        ≡ opened_font_cut font (with_numbers numbers)
     closed_or_not closes numbers is =
-        λ i. cut_in font.0 font.1.0 (wanted_with (sym is i) font.0 font.1.0 (with_numbers numbers))
+        λ i. cut_of font.0 font.1.0 (closed_if (sym is i) font.0 font.1.0 (with_numbers numbers))
 
-    pub all_numbers : cut_in font.0 font.1.0 (with_numbers None) ≡ cut_as font (with_numbers None)
+    pub all_numbers : cut_of font.0 font.1.0 (with_numbers None) ≡ opened_font_cut font (with_numbers None)
     all_numbers = by_closing font.1.1 refl
       where
-        by_closing : (closes : Bool) → font.1.1 ≡ closes → cut_in font.0 font.1.0 (with_numbers None)
-            ≡ cut_as font (with_numbers None)
+        by_closing : (closes : Bool) → font.1.1 ≡ closes → cut_of font.0 font.1.0 (with_numbers None)
+            ≡ opened_font_cut font (with_numbers None)
         by_closing true is = all_same font.0 font.1.0 ranges accepted ∙ closed_or_not true None is
         by_closing false is = closed_or_not false None is
 
     pub closed_numbers : (numbers listed : List ℕ) → font.1.1 ≡ true
         → ((g : ℕ) → glyphs_wanted (Some listed) g ≡ (glyphs_wanted (Some numbers) g
         || (nat_lt g (glyph_count_of font.1.0) && is_beyond font.0 font.1.0 (with_numbers (Some numbers)) g)))
-        → cut_in font.0 font.1.0 (with_numbers (Some listed)) ≡ cut_as font (with_numbers (Some numbers))
+        → cut_of font.0 font.1.0 (with_numbers (Some listed)) ≡ opened_font_cut font (with_numbers (Some numbers))
     closed_numbers numbers listed closes are =
         closed_same font.0 font.1.0 _ (glyphs_wanted (Some listed)) (with_numbers (Some numbers)) refl are
         ∙ closed_or_not true (Some numbers) closes
 
     pub same_numbers : (numbers listed : Option (List ℕ)) → font.1.1 ≡ false → listed ≡ numbers
-        → cut_in font.0 font.1.0 (with_numbers listed) ≡ cut_as font (with_numbers numbers)
-    same_numbers numbers listed unclosed is = ap (λ (l : Option (List ℕ)). cut_in font.0 font.1.0 (with_numbers l)) is
+        → cut_of font.0 font.1.0 (with_numbers listed) ≡ opened_font_cut font (with_numbers numbers)
+    same_numbers numbers listed unclosed is = ap (λ (l : Option (List ℕ)). cut_of font.0 font.1.0 (with_numbers l)) is
         ∙ closed_or_not false numbers unclosed
 
 -- of a font that is held
 pub opened_path : (held : Kind × List ℕ) (font : Kind × (List ℕ × Bool)) (ranges : Option (List CodeRange))
     (numbers listed read : Option (List ℕ)) → held ≡ (font.0, font.1.0) → read ≡ listed
-    → cut_in font.0 font.1.0 (wanted_in (asked ranges listed)) ≡ cut_as font (wanted_in (asked ranges numbers))
-    → cut_in held.0 held.1 (wanted_in (asked ranges read)) ≡ cut_as font (wanted_in (asked ranges numbers))
+    → cut_of font.0 font.1.0 (wanted_in (asked ranges listed)) ≡ opened_font_cut font (wanted_in (asked ranges numbers))
+    → cut_of held.0 held.1 (wanted_in (asked ranges read)) ≡ opened_font_cut font (wanted_in (asked ranges numbers))
 opened_path held font ranges numbers listed read same is made =
-    (λ i. cut_in (same i).0 (same i).1 (wanted_in (asked ranges (is i)))) ∙ made
+    (λ i. cut_of (same i).0 (same i).1 (wanted_in (asked ranges (is i)))) ∙ made
 
 -- and of its file, by what is selected first
 pub opened_file : (font : Kind × (List ℕ × Bool)) (held : Kind × List ℕ) (seeds : List ℕ × Option (List CodeRange))
     (whole : List ℕ) (ranges : Option (List CodeRange)) (numbers listed read : Option (List ℕ)) (source : Held)
     → held ≡ (font.0, font.1.0) → seeds ≡ (whole, ranges) → read ≡ listed
     → source ≡ (held.0, (held.1, asked seeds.1 read))
-    → cut_in font.0 font.1.0 (wanted_in (asked seeds.1 listed)) ≡ cut_as font (wanted_in (asked seeds.1 numbers))
-    → file current_writing (written_of source) ≡ cut_as font (wanted_in (asked ranges numbers))
+    → cut_of font.0 font.1.0 (wanted_in (asked seeds.1 listed))
+    ≡ opened_font_cut font (wanted_in (asked seeds.1 numbers))
+    → file current_writing (written_content source) ≡ opened_font_cut font (wanted_in (asked ranges numbers))
 opened_file font held seeds whole ranges numbers listed read source same begun is selected made =
     cut_in_is held seeds.1 read source selected ∙ opened_path held font seeds.1 numbers listed read same is made
-    ∙ ap (λ (s : List ℕ × Option (List CodeRange)). cut_as font (wanted_in (asked s.1 numbers))) begun
+    ∙ ap (λ (s : List ℕ × Option (List CodeRange)). opened_font_cut font (wanted_in (asked s.1 numbers))) begun

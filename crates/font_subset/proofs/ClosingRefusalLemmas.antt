@@ -13,10 +13,9 @@ use Rattle.font_file.specs.declared.font_error.FontError.{FontError}
 use Rattle.font_file.specs.declared.font_error.FontError.TheVariants.{BadLayout, BadVariations, Directory}
 use Rattle.font_theory.specs.Closed.{is_bad_layout_in}
 use Rattle.font_theory.specs.Content.{is_bad_variations_in}
-use Rattle.font_theory.specs.Kinds.{fault_by, fault_of, full_settings, gsub_as, layout_settings, lean_settings}
-use Rattle.font_theory.specs.Kinds.{settings}
-use Rattle.font_theory.specs.Kinds.{tables_as, variable_settings}
-use Rattle.font_theory.specs.Links.{is_bad_layout}
+use Rattle.font_theory.specs.Kinds.{fault_by, fault_of, full_settings, gsub_bytes, layout_settings, lean_settings}
+use Rattle.font_theory.specs.Kinds.{settings, tables_of, variable_settings}
+use Rattle.font_theory.specs.Links.{is_unreadable_gsub}
 use Rattle.font_theory.specs.declared.kinds.Kind.{Kind}
 use Rattle.font_theory.specs.declared.kinds.Kind.TheVariants.{Full, Layout, Lean, Variable}
 use Rattle.font_theory.proofs.KindLemmas.{kind_is}
@@ -52,11 +51,11 @@ by_gvar None None false none h = cc
 
 -- a font that is accepted for its kind is refused by its `GSUB` alone
 pub closing_by_gsub : (kind : Kind) (file : List ℕ) (bad : Bool) → fault_of kind file ≡ None
-    → is_bad_layout_in (tables_as kind file) ≡ bad → closing_fault kind file ≡ when bad BadLayout
+    → is_bad_layout_in (tables_of kind file) ≡ bad → closing_fault kind file ≡ when bad BadLayout
 unfolding fault_by closing_fault
 closing_by_gsub kind file bad accepted is =
     first_fine (font_fault file) (option_map Directory (first_of_lines (tag_lines (settings kind).tags file)))
-    (is_bad_layout_in (tables_as kind file)) (is_bad_variations_in (tables_as kind file)) accepted
+    (is_bad_layout_in (tables_of kind file)) (is_bad_variations_in (tables_of kind file)) accepted
     ∙ ap (λ b. when b BadLayout) is
 
 -- a font that was opened is not refused
@@ -71,7 +70,7 @@ pub closing_refused : (kind : Kind) (file : List ℕ) (error : FontError) → fa
 unfolding fault_by closing_fault
 closing_refused kind file error refused other =
     first_refused (font_fault file) (option_map Directory (first_of_lines (tag_lines (settings kind).tags file)))
-    (is_bad_layout_in (tables_as kind file)) (is_bad_variations_in (tables_as kind file)) error refused other
+    (is_bad_layout_in (tables_of kind file)) (is_bad_variations_in (tables_of kind file)) error refused other
 
 -- what is refused as a font is refused for each kind, whether cuts are closed or not
 pub font_refused : (closes : Bool) (kind : Kind) (file : List ℕ) (error : FontError) → font_fault file ≡ Some error
@@ -80,25 +79,25 @@ unfolding closing_fault
 font_refused true kind file error refused =
     ap (λ (f : Option FontError). first_of_lines (f
     ∷ option_map Directory (first_of_lines (tag_lines (settings kind).tags file))
-    ∷ when (is_bad_layout_in (tables_as kind file)) BadLayout
-    ∷ when (is_bad_variations_in (tables_as kind file)) BadVariations ∷ [])) refused
+    ∷ when (is_bad_layout_in (tables_of kind file)) BadLayout
+    ∷ when (is_bad_variations_in (tables_of kind file)) BadVariations ∷ [])) refused
 font_refused false kind file error refused = (kind_is kind).refused file error refused
 
 -- variable cuts alone have a `gvar`
-only_variable : (kind : Kind) (file : List ℕ) → is_bad_variations_in (tables_as kind file) ≡ true → kind ≡ Variable
+only_variable : (kind : Kind) (file : List ℕ) → is_bad_variations_in (tables_of kind file) ≡ true → kind ≡ Variable
 unfolding full_settings lean_settings layout_settings
-only_variable Full file bad = let fine = is_bad_variations_in-none (tables_as Full file) refl in cc
-only_variable Lean file bad = let fine = is_bad_variations_in-none (tables_as Lean file) refl in cc
-only_variable Layout file bad = let fine = is_bad_variations_in-none (tables_as Layout file) refl in cc
+only_variable Full file bad = let fine = is_bad_variations_in-none (tables_of Full file) refl in cc
+only_variable Lean file bad = let fine = is_bad_variations_in-none (tables_of Lean file) refl in cc
+only_variable Layout file bad = let fine = is_bad_variations_in-none (tables_of Layout file) refl in cc
 only_variable Variable file bad = refl
 
 module _ (kind : Kind) (file : List ℕ) (accepted : font_fault file ≡ None)
     (refused : fault_of kind file ≡ Some BadVariations) where
   parts : (first_of_lines (tag_lines (settings kind).tags file)
-      ≡ None) × (is_bad_variations_in (tables_as kind file) ≡ true)
+      ≡ None) × (is_bad_variations_in (tables_of kind file) ≡ true)
   unfolding fault_by
   parts = by_gvar (font_fault file) (first_of_lines (tag_lines (settings kind).tags file))
-      (is_bad_variations_in (tables_as kind file)) accepted refused
+      (is_bad_variations_in (tables_of kind file)) accepted refused
 
   kind_is_variable : kind ≡ Variable
   kind_is_variable = only_variable kind file parts.1
@@ -106,12 +105,12 @@ module _ (kind : Kind) (file : List ℕ) (accepted : font_fault file ≡ None)
   pub inside_of_variable : tags_fault Variable file ≡ None
   inside_of_variable = ap (λ (k : Kind). tags_fault k file) (sym kind_is_variable) ∙ parts.0
 
-  pub closing_of_variable : (bad : Bool) → bad ≡ is_bad_layout_in (tables_as Variable file)
+  pub closing_of_variable : (bad : Bool) → bad ≡ is_bad_layout_in (tables_of Variable file)
       → closing_fault kind file ≡ Some (if bad then BadLayout else BadVariations)
   unfolding closing_fault
   closing_of_variable bad is =
       (λ i. first_of_lines (accepted i ∷ option_map Directory (parts.0 i)
-      ∷ when (is_bad_layout_in (tables_as (kind_is_variable i) file)) BadLayout ∷ when (parts.1 i) BadVariations ∷ []))
+      ∷ when (is_bad_layout_in (tables_of (kind_is_variable i) file)) BadLayout ∷ when (parts.1 i) BadVariations ∷ []))
       ∙ (λ i. first_of_lines (when (sym is i) BadLayout ∷ Some BadVariations ∷ []))
       ∙ either bad
     where
@@ -121,7 +120,7 @@ module _ (kind : Kind) (file : List ℕ) (accepted : font_fault file ≡ None)
       either false = refl
 
 -- full and lean cuts keep no `GSUB`
-pub layout_kept : (kind : Kind) (file gsub : List ℕ) → gsub ≡ gsub_as kind file → length gsub ≢ 0
+pub layout_kept : (kind : Kind) (file gsub : List ℕ) → gsub ≡ gsub_bytes kind file → length gsub ≢ 0
     → (kind ≢ Full) × (kind ≢ Lean)
 unfolding full_settings lean_settings
 layout_kept Full file gsub is some = absurd (some (ap (λ (b : List ℕ). length b) is))
@@ -135,12 +134,12 @@ layout_kept Variable file gsub is some = (
 
 -- the bytes of `GSUB` of a font for variable cuts
 pub bad_gsub_of : (file gsub : List ℕ) (bad : Bool) → table_of file (slot_tag GSUB) ≡ Some gsub
-    → is_bad_layout gsub ≡ bad
-    → is_bad_layout_in (tables_as Variable file) ≡ bad
+    → is_unreadable_gsub gsub ≡ bad
+    → is_bad_layout_in (tables_of Variable file) ≡ bad
 unfolding is_bad_layout_in variable_settings
-bad_gsub_of file gsub bad there is = ap (λ (o : Option (List ℕ)). is_bad_layout (unwrap_or o [])) there ∙ is
+bad_gsub_of file gsub bad there is = ap (λ (o : Option (List ℕ)). is_unreadable_gsub (unwrap_or o [])) there ∙ is
 
 pub no_bad_gsub : (file : List ℕ) → table_of file (slot_tag GSUB) ≡ None
-    → is_bad_layout_in (tables_as Variable file) ≡ false
-unfolding is_bad_layout_in variable_settings is_bad_layout
-no_bad_gsub file none = ap (λ (o : Option (List ℕ)). is_bad_layout (unwrap_or o [])) none
+    → is_bad_layout_in (tables_of Variable file) ≡ false
+unfolding is_bad_layout_in variable_settings is_unreadable_gsub
+no_bad_gsub file none = ap (λ (o : Option (List ℕ)). is_unreadable_gsub (unwrap_or o [])) none

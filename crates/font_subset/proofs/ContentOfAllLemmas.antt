@@ -8,18 +8,18 @@ use Rattle.std.proofs.lemmas.Bool.{false_from_ne_true}
 use Rattle.font_file.specs.Font.{font_fault}
 use Rattle.sfnt_bytes.specs.Lines.{when}
 use Rattle.font_theory.specs.Bytes.{padded}
-use Rattle.font_theory.specs.Content.{Font, content, everything, font_of, is_kept}
+use Rattle.font_theory.specs.Content.{Font, content, everything, is_kept, plain_font}
 use Rattle.font_theory.specs.Cut.{Format, IsCurrent, IsCut, IsOld, is_current, is_cut, is_old}
 use Rattle.font_theory.specs.Cut.{content_of_all}
 use Rattle.font_theory.proofs.CutLemmas.{IsCut-cases, IsCut-current, IsCut-old, is_current-of, is_current-tells}
 use Rattle.font_theory.proofs.CutLemmas.{is_cut-tells, is_old-of, is_old-tells}
 use Rattle.font_theory.proofs.WritingLemmas.{no_cut-both}
-use Rattle.font_theory.specs.Kinds.{fault_of, font_as, format_by, format_of}
+use Rattle.font_theory.specs.Kinds.{fault_of, font_of, format_by, format_of}
 use Rattle.font_theory.specs.declared.kinds.Kind.TheVariants.{Full}
 use Rattle.font_theory.specs.declared.kinds.Kind.{Kind}
 use Rattle.font_theory.proofs.KindLemmas.{full-is, full_fault-is, kind_is, read_whole}
 use Rattle.font_subset.specs.CutOfFont.{IsFormIn, IsFormOf, cut_form_of, form_in}
-use Rattle.font_subset.specs.CutOfKind.{form_as}
+use Rattle.font_subset.specs.CutOfKind.{kind_form}
 use Rattle.font_subset.specs.Inside.{IsFileIn}
 use Rattle.font_subset.specs.declared.forms.CutForm.{CutForm}
 use Rattle.font_subset.specs.declared.forms.CutForm.TheVariants.{Current, Not, Old}
@@ -117,7 +117,7 @@ module _ (R : Format) where
       go Old n = refl
 
 -- a form in words, for each kind
-pub form_in_words : (kind : Kind) (form : CutForm) (X : List ℕ) → fault_of kind X ≡ None → form ≡ form_as kind X
+pub form_in_words : (kind : Kind) (form : CutForm) (X : List ℕ) → fault_of kind X ≡ None → form ≡ kind_form kind X
     → IsFormIn kind X form
 unfolding form_in
 form_in_words kind form X accepted e = go (is_current R X) (is_old R X) refl refl e
@@ -184,24 +184,24 @@ pub is_cut_tells : (kind : Kind) (b : Bool) (X : List ℕ) → fault_of kind X �
 is_cut_tells kind b X accepted e t = is_cut-tells (format_of kind) (kind_is kind).law X ((kind_is kind).fault_is X
     ∙ accepted) (sym e ∙ t)
 
--- an outline that a file in cut form keeps stands in it as it is written: with its zeros
+-- an outline that a file in cut form keeps stands in it is written: with its zeros
 filled : (kind : Kind) (file : List ℕ) → IsCut (format_of kind) file → (g : ℕ)
-    → is_kept (font_as kind file) everything g ≡ true → (content (font_as kind file) everything).outline g
-    ≡ Some ((font_of file).outline g)
+    → is_kept (font_of kind file) everything g ≡ true → (content (font_of kind file) everything).outline g
+    ≡ Some ((plain_font file).outline g)
 filled kind file form g kept =
-    let e : (content (font_as kind file) everything).outline g ≡ Some (padded ((font_of file).outline g)) =
-    ap (λ b. when b (padded ((font_of file).outline g))) kept in
+    let e : (content (font_of kind file) everything).outline g ≡ Some (padded ((plain_font file).outline g)) =
+    ap (λ b. when b (padded ((plain_font file).outline g))) kept in
     e ∙ ap Some (sym (ap (λ (F : Font). F.outline g) (read_whole kind file form) ∙ ap (λ o. unwrap_or o []) e))
 
 -- an outline that is kept is one of the font, and in a file in cut form has its zeros
 module _ (kind : Kind) (file : List ℕ) (marks : List Bool) (kept : IsKeptSet kind file everything marks) where
-  pub written_below : (g : ℕ) (b : Bool) → b ≡ is_some ((content (font_as kind file) everything).outline g) → b ≡ true
+  pub written_below : (g : ℕ) (b : Bool) → b ≡ is_some ((content (font_of kind file) everything).outline g) → b ≡ true
       → g < glyph_count_of file
   written_below g b is t = kept_below kind file everything marks kept g (sym is ∙ t)
 
   pub written_is : IsCut (format_of kind) file → (g : ℕ) (b : Bool)
-      → b ≡ is_some ((content (font_as kind file) everything).outline g) → b ≡ true
-      → (content (font_as kind file) everything).outline g ≡ Some (outline_of file g)
+      → b ≡ is_some ((content (font_of kind file) everything).outline g) → b ≡ true
+      → (content (font_of kind file) everything).outline g ≡ Some (outline_of file g)
   written_is form g b is t =
       filled kind file form g (sym (kept.kept g) ∙ kept_is kind file everything marks kept g ∙ sym is ∙ t)
       ∙ ap (λ (x : List ℕ). Some x) (outline-file file g (written_below g b is t))

@@ -8,9 +8,9 @@ use Rattle.font_theory.specs.declared.Profile.TheVariants.{First}
 use Rattle.font_theory.specs.declared.kinds.Kind.{Kind}
 use Rattle.font_theory.specs.declared.kinds.Kind.TheVariants.{Full, Layout, Lean, Variable}
 use Rattle.font_theory.proofs.KindLemmas.{kind_is}
-use Rattle.font_subset.specs.KeptGlyphs.{Asked, all_asked, wanted_in, written_of}
+use Rattle.font_subset.specs.KeptGlyphs.{Asked, all_asked, wanted_in, written_content}
 use Rattle.font_subset.specs.Inside.{IsFileIn}
-use Rattle.font_subset.specs.CutOfKind.{form_as}
+use Rattle.font_subset.specs.CutOfKind.{kind_form}
 use Rattle.font_subset.specs.declared.forms.CutForm.{CutForm}
 use Rattle.font_subset.proofs.ContentOfAllLemmas.{form_by}
 use Rattle.font_subset.proofs.KindSourceLemmas.{written_spelled}
@@ -60,11 +60,11 @@ variable_other kind is full = let n : Variable ≡ Full = sym is ∙ full in cc
 
 -- the form of a font's file, of what is held for all codes
 pub form_of_held : (kind : Kind) (held : Held) (X : List ℕ) (form : CutForm) → kind ≡ held.0 → held.1.1 ≡ all_asked
-    → X ≡ held.1.0 → ((K : Content) → written_of held ≡ spelled_by kind K → IsFileIn (format_of kind) K X form)
-    → form ≡ form_as held.0 held.1.0
+    → X ≡ held.1.0 → ((K : Content) → written_content held ≡ spelled_by kind K → IsFileIn (format_of kind) K X form)
+    → form ≡ kind_form held.0 held.1.0
 form_of_held kind held X form same all is told =
-    let here : (K : Content) → written_of held ≡ spelled_by held.0 K → IsFileIn (format_of held.0) K X form =
-    subst (λ (k : Kind). (K : Content) → written_of held ≡ spelled_by k K → IsFileIn (format_of k) K X form) same
+    let here : (K : Content) → written_content held ≡ spelled_by held.0 K → IsFileIn (format_of held.0) K X form =
+    subst (λ (k : Kind). (K : Content) → written_content held ≡ spelled_by k K → IsFileIn (format_of k) K X form) same
     told in
     let whole = subst (λ (o : Asked). IsFileIn (format_of held.0)
     (content ((format_of held.0).font held.1.0) (wanted_in o)) X form) all (here _ (written_spelled held)) in

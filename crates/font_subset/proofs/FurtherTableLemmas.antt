@@ -1,9 +1,9 @@
 -- What is read of the tables of layout and of variations of a font.
 use Rattle.std.proofs.Common.{◌≡◌, ℕ, zero, suc, ◌+◌, ◌-◌, ◌<◌, ◌≤◌, Bool, true, false, cond, nat_le, List, []}
-use Rattle.std.proofs.Common.{◌∷◌, get_or}
+use Rattle.std.proofs.Common.{◌∷◌, ◌&&◌, get_or}
 use Rattle.std.proofs.Common.{Option, None, Some, refl, sym, ◌∙◌, ap, arith}
 use Rattle.std.specs.Option.{option_map, option_map_or, option_or}
-use Rattle.std.proofs.lemmas.Bool.{lt-leb, ne_eqb}
+use Rattle.std.proofs.lemmas.Bool.{le-leb, lt-leb, lt-ltb, ne_eqb}
 use Rattle.sfnt_bytes.specs.Directory.{is_layout_slot, slot_tag, table_of}
 use Rattle.sfnt_bytes.specs.Lines.{first_of_lines, when}
 use Rattle.sfnt_bytes.specs.Refusals.{is_outside, layout_directory_fault, tag_lines}
@@ -18,14 +18,15 @@ use Rattle.font_file.specs.Font.{font_fault}
 use Rattle.font_file.specs.declared.font_error.FontError.TheVariants.{BadVariations, Directory}
 use Rattle.font_theory.specs.Content.{is_bad_variations_in, is_never_copied}
 use Rattle.font_theory.specs.Kinds.{fault_by, fault_of, full_settings, layout_settings, lean_settings, read_by}
-use Rattle.font_theory.specs.Kinds.{tables_as, variable_settings}
+use Rattle.font_theory.specs.Kinds.{tables_of, variable_settings}
 use Rattle.font_theory.specs.Kinds.Reading.{absent, as_it_is, unvarying}
 use Rattle.font_theory.specs.Links.{fixed}
 use Rattle.font_theory.specs.declared.kinds.Kind.{Kind}
 use Rattle.font_theory.specs.declared.kinds.Kind.TheVariants.{Full, Layout, Lean, Variable}
 use Rattle.font_theory.proofs.LinkLemmas.{is_bad_variations_in-none, layout-copied}
-use Rattle.font_subset.specs.Inside.{IsOpened, IsRead, fixed_read, slots_of, tags_fault}
-use Rattle.font_subset.specs.KeptGlyphs.{AreVariationsIn}
+use Rattle.font_subset.specs.Inside.{IsRead, fixed_read, slots_of, tags_fault}
+use Rattle.divided_tables.specs.DividedTables.{has_refused}
+use Rattle.divided_tables.proofs.KindPartLemmas.{refused-is}
 use Rattle.font_subset.proofs.SourceLemmas.{count_as, full_accepted, lean_accepted, unread}
 
 -- cuts that read none of these tables, and cuts that read some
@@ -45,7 +46,7 @@ plain_read Variable file plain = absurd (omega (arith, plain))
 
 -- a table of layout without what varies
 pub layout_table : (file : List ℕ) (slot : ℕ) → is_layout_slot slot ≡ true
-    → tables_as Layout file slot ≡ option_map (fixed slot) (table_of file (slot_tag slot))
+    → tables_of Layout file slot ≡ option_map (fixed slot) (table_of file (slot_tag slot))
 unfolding layout_settings
 layout_table file slot h =
     let none = layout-copied slot h in
@@ -53,7 +54,7 @@ layout_table file slot h =
 
 -- a table that is read as it is
 variable_table : (file : List ℕ) (slot : ℕ) → SLOTS ≤ slot → slot < ALL_SLOTS
-    → table_of file (slot_tag slot) ≡ tables_as Variable file slot
+    → table_of file (slot_tag slot) ≡ tables_of Variable file slot
 unfolding variable_settings
 variable_table file slot from to =
     let x = ne_eqb slot 1 (λ e. omega arith) in
@@ -65,18 +66,20 @@ variable_table file slot from to =
     sym (ap (λ b. read_by (cond b absent as_it_is) slot (table_of file (slot_tag slot))) copied)
 
 pub whole_table : (kind : Kind) (file : List ℕ) (slot : ℕ) → None ≡ fixed_read kind file → SLOTS ≤ slot
-    → slot < slots_of kind → table_of file (slot_tag slot) ≡ tables_as kind file slot
+    → slot < slots_of kind → table_of file (slot_tag slot) ≡ tables_of kind file slot
 whole_table Full file slot none from to = absurd (omega (arith, from, to))
 whole_table Lean file slot none from to = absurd (omega (arith, from, to))
 whole_table Layout file slot none from to = cc
 whole_table Variable file slot none from to = variable_table file slot from to
 
-pub varying_table : (kind : Kind) (file : List ℕ) (slot : ℕ) → FIRST_VARIATION ≤ slot → slot < slots_of kind
-    → table_of file (slot_tag slot) ≡ tables_as kind file slot
-varying_table Full file slot from to = absurd (omega (arith, from, to))
-varying_table Lean file slot from to = absurd (omega (arith, from, to))
-varying_table Layout file slot from to = absurd (omega (arith, from, to))
-varying_table Variable file slot from to = variable_table file slot (omega (arith, from)) to
+-- a table that is none of layout is read as it is
+pub plain_table : (kind : Kind) (file : List ℕ) (slot : ℕ) → SLOTS ≤ slot → slot < slots_of kind
+    → is_layout_slot slot ≡ false → table_of file (slot_tag slot) ≡ tables_of kind file slot
+plain_table Full file slot from to plain = absurd (omega (arith, from, to))
+plain_table Lean file slot from to plain = absurd (omega (arith, from, to))
+plain_table Layout file slot from to plain =
+    let t : true ≡ false = sym (λ i. le-leb SLOTS slot from i && lt-ltb slot FIRST_VARIATION to i) ∙ plain in cc
+plain_table Variable file slot from to plain = variable_table file slot from to
 
 -- no table that is read lies outside
 module _ (file : List ℕ) (inside : first_of_lines (tag_lines LAYOUT_AND_VARIATIONS file) ≡ None) where
@@ -128,51 +131,17 @@ pub tags_refused : (kind : Kind) (file : List ℕ) (error : DirError) → font_f
 unfolding fault_by
 tags_refused kind file error accepted refused =
     λ i. option_or (accepted i) (first_of_lines (option_map Directory (refused i)
-    ∷ when (is_bad_variations_in (tables_as kind file)) BadVariations ∷ []))
+    ∷ when (is_bad_variations_in (tables_of kind file)) BadVariations ∷ []))
 
--- then the one by `gvar`
+-- then the one by the tables that are divided
 pub tables_fault : (kind : Kind) (file : List ℕ) → font_fault file ≡ None → tags_fault kind file ≡ None
-    → (bad : Bool) → is_bad_variations_in (tables_as kind file) ≡ bad → fault_of kind file ≡ when bad BadVariations
+    → (bad : Bool) → has_refused (tables_of kind file) ≡ bad → fault_of kind file ≡ when bad BadVariations
 unfolding fault_by
-tables_fault kind file accepted inside bad varying =
-    (λ i. option_or (accepted i) (first_of_lines (option_map Directory (inside i) ∷ when (varying i) BadVariations ∷
-    [])))
+tables_fault kind file accepted inside bad refused =
+    (λ i. option_or (accepted i) (first_of_lines (option_map Directory (inside i)
+    ∷ when ((sym (refused-is (tables_of kind file)) ∙ refused) i) BadVariations ∷ [])))
     ∙ end bad
   where
     end : (b : Bool) → first_of_lines (when b BadVariations ∷ []) ≡ when b BadVariations
     end true = refl
     end false = refl
-
--- `gvar` is bad where what is read of it is
-pub bad_gvar_of : (kind : Kind) (file gvar : List ℕ) (fvar : Option (List ℕ)) (n : ℕ) (bad : Bool)
-    → Some gvar ≡ tables_as kind file GVAR → fvar ≡ tables_as kind file FVAR → n ≡ glyph_count_of file
-    → is_bad_variations gvar fvar n ≡ bad → is_bad_variations_in (tables_as kind file) ≡ bad
-unfolding is_bad_variations_in
-bad_gvar_of kind file gvar fvar n bad there axes count is =
-    (λ i. option_map_or (λ t. is_bad_variations t (sym axes i) ((sym (count_as kind file) ∙ sym count) i))
-    (sym there i) false) ∙ is
-
-pub no_bad_gvar : (kind : Kind) (file : List ℕ) → tables_as kind file GVAR ≡ None
-    → is_bad_variations_in (tables_as kind file) ≡ false
-no_bad_gvar kind file none = is_bad_variations_in-none (tables_as kind file) none
-
--- what is read of `gvar`
-pub read_gvar : (kind : Kind) (file gvar : List ℕ) (n : ℕ) (opened : List ℕ × ℕ)
-    → Some gvar ≡ tables_as kind file GVAR → n ≡ glyph_count_of file → opened ≡ (gvar, n)
-    → AreVariationsIn kind file (Some opened)
-read_gvar kind file gvar n opened there count is =
-    ap Some (is ∙ ap (λ (m : ℕ). (gvar, m)) count)
-    ∙ ap (option_map (λ (t : List ℕ). (t, glyph_count_of file))) there
-
-pub read_no_gvar : (kind : Kind) (file : List ℕ) → tables_as kind file GVAR ≡ None → AreVariationsIn kind file None
-read_no_gvar kind file none = sym (ap (option_map (λ (t : List ℕ). (t, glyph_count_of file))) none)
-
-pub unread_gvar : (kind : Kind) (file : List ℕ) → slots_of kind ≤ GVAR → tables_as kind file GVAR ≡ None
-unread_gvar kind file far = unread kind file GVAR (omega arith) far
-
-pub plain_opened : (kind : Kind) (file : List ℕ) → slots_of kind ≡ SLOTS → font_fault file ≡ None
-    → IsOpened kind file None
-plain_opened kind file plain accepted = record {
-  accepted = plain_accepted kind file plain accepted;
-  variations_are = read_no_gvar kind file (unread_gvar kind file (omega (arith, plain)));
-}

@@ -3,11 +3,10 @@ use Rattle.std.proofs.Common.{◌≡◌, ◌≢◌, ℕ, suc, ◌<◌, ◌≤◌
 use Rattle.std.proofs.Common.{subst}
 use Rattle.std.specs.Option.{IsSome, is_some, option_or}
 use Rattle.sfnt_bytes.specs.Directory.{slot_tag, table_of}
-use Rattle.sfnt_bytes.specs.declared.tag.TheConstants.{GVAR}
 use Rattle.font_theory.specs.Bytes.{cut_head}
 use Rattle.font_theory.specs.Content.{Content, IsWritable, KeepsComponents, Wanted, content, glyph_count}
-use Rattle.font_theory.specs.Kinds.{divides_tables, fault_of, font_as, format_by, format_of, full_settings}
-use Rattle.font_theory.specs.Kinds.{partition_of, read_by, reduced, settings, spelled_by, tables_as}
+use Rattle.font_theory.specs.Kinds.{divides_tables, fault_of, font_of, format_by, format_of, full_settings}
+use Rattle.font_theory.specs.Kinds.{partition_of, read_by, reduced, settings, spelled_by, tables_of}
 use Rattle.font_theory.specs.Kinds.Reading.{absent}
 use Rattle.font_theory.specs.Parting.{may_divide, undivided}
 use Rattle.font_theory.specs.declared.kinds.Kind.{Kind}
@@ -17,10 +16,10 @@ use Rattle.font_theory.proofs.KindLemmas.{settings-are}
 use Rattle.font_theory.proofs.PartLemmas.{glyph_count-alike, never-divided}
 use Rattle.font_theory.proofs.WordLemmas.{reduced-undivided}
 use Rattle.font_write.specs.Parts.{IsNextKept}
-use Rattle.divided_tables.specs.Open.{IsKept, Made, made_at, none_made}
+use Rattle.divided_tables.specs.DividedTables.{IsKept, Made, made_at, none_made}
 use Rattle.divided_tables.proofs.KindPartLemmas.{reduced_as}
 use Rattle.divided_tables.proofs.MadeLemmas.{none_at}
-use Rattle.font_subset.specs.KeptGlyphs.{selected, wanted_in, written_of}
+use Rattle.font_subset.specs.KeptGlyphs.{selected, wanted_in, written_content}
 use Rattle.font_subset.specs.Inside.{IsMade}
 use Rattle.font_subset.proofs.SourceLemmas.{Held, is_font, is_writable, keeps_components}
 
@@ -29,17 +28,17 @@ abbrev kept_by : Kind → Content → Content
 kept_by kind K = reduced (partition_of kind) K
 
 by_kind : (kind : Kind) (font : List ℕ) (wanted : Wanted) → fault_of kind font ≡ None
-    → spelled_by kind (content ((format_of kind).font font) wanted) ≡ kept_by kind (content (font_as kind font) wanted)
+    → spelled_by kind (content ((format_of kind).font font) wanted) ≡ kept_by kind (content (font_of kind font) wanted)
 unfolding format_by
-by_kind kind font wanted ok = reduced-is (partition_of kind) (settings-are kind).partition (font_as kind font)
+by_kind kind font wanted ok = reduced-is (partition_of kind) (settings-are kind).partition (font_of kind font)
     (is_font kind font ok) wanted
 
 pub written_spelled : (cut : Held)
-    → written_of cut ≡ spelled_by cut.0 (content ((format_of cut.0).font cut.1.0) (wanted_in cut.1.1))
-unfolding written_of
+    → written_content cut ≡ spelled_by cut.0 (content ((format_of cut.0).font cut.1.0) (wanted_in cut.1.1))
+unfolding written_content
 written_spelled cut = refl
 
-written_is : (cut : Held) → fault_of cut.0 cut.1.0 ≡ None → written_of cut ≡ kept_by cut.0 (selected cut)
+written_is : (cut : Held) → fault_of cut.0 cut.1.0 ≡ None → written_content cut ≡ kept_by cut.0 (selected cut)
 written_is cut ok = written_spelled cut ∙ by_kind cut.0 cut.1.0 (wanted_in cut.1.1) ok
 
 -- what it has of that content
@@ -85,9 +84,9 @@ divides_all Layout other = refl
 divides_all Variable other = refl
 
 -- a table that is not read is none
-pub unread_file : (kind : Kind) (file : List ℕ) → (settings kind).reading GVAR ≡ absent
-    → tables_as kind file GVAR ≡ None
-unread_file kind file e = ap (λ r. read_by r GVAR (table_of file (slot_tag GVAR))) e
+pub unread_file : (kind : Kind) (file : List ℕ) (slot : ℕ) → (settings kind).reading slot ≡ absent
+    → tables_of kind file slot ≡ None
+unread_file kind file slot e = ap (λ r. read_by r slot (table_of file (slot_tag slot))) e
 
 full_partition : (slot : ℕ) → partition_of Full slot ≡ undivided
 unfolding full_settings
@@ -98,33 +97,33 @@ kept_full kind K slot full = ap (λ (k : Kind). (kept_by k K).copied slot) full
     ∙ reduced-undivided (partition_of Full) K slot (full_partition slot)
 
 module _ (cut : Held) (ok : fault_of cut.0 cut.1.0 ≡ None) where
-  pub in_writable : IsWritable (written_of cut)
+  pub in_writable : IsWritable (written_content cut)
   in_writable = subst IsWritable (sym (written_is cut ok)) (kept_writable cut.0 (selected cut) (is_writable cut ok))
 
-  pub in_components : KeepsComponents (written_of cut)
+  pub in_components : KeepsComponents (written_content cut)
   in_components = subst KeepsComponents (sym (written_is cut ok)) (kept_components cut.0 (selected cut)
       (keeps_components cut ok))
 
-  pub in_head : (written_of cut).head ≡ (selected cut).head
+  pub in_head : (written_content cut).head ≡ (selected cut).head
   in_head = ap (λ (K : Content). K.head) (written_is cut ok) ∙ kept_head cut.0 (selected cut)
 
-  pub in_map : (written_of cut).map ≡ (selected cut).map
+  pub in_map : (written_content cut).map ≡ (selected cut).map
   in_map = ap (λ (K : Content). K.map) (written_is cut ok) ∙ kept_map cut.0 (selected cut)
 
-  pub in_outline : (written_of cut).outline ≡ (selected cut).outline
+  pub in_outline : (written_content cut).outline ≡ (selected cut).outline
   in_outline = ap (λ (K : Content). K.outline) (written_is cut ok) ∙ kept_outline cut.0 (selected cut)
 
-  pub in_count : glyph_count (written_of cut).copied ≡ glyph_count (selected cut).copied
+  pub in_count : glyph_count (written_content cut).copied ≡ glyph_count (selected cut).copied
   in_count = ap (λ (K : Content). glyph_count K.copied) (written_is cut ok) ∙ kept_count cut.0 (selected cut)
 
-  pub in_keeps : (g : ℕ) → is_some ((written_of cut).outline g) ≡ is_some ((selected cut).outline g)
+  pub in_keeps : (g : ℕ) → is_some ((written_content cut).outline g) ≡ is_some ((selected cut).outline g)
   in_keeps g = ap (λ o. is_some (o g)) in_outline
 
   pub in_outline_at : (g : ℕ) (b : List ℕ) → (IsSome ((selected cut).outline g) → (selected cut).outline g ≡ Some b)
-      → IsSome ((written_of cut).outline g) → (written_of cut).outline g ≡ Some b
+      → IsSome ((written_content cut).outline g) → (written_content cut).outline g ≡ Some b
   in_outline_at g b h some = ap (λ o. o g) in_outline ∙ h (subst (λ o. IsSome (o g)) in_outline some)
 
-  pub in_next : (from g : ℕ) → IsNextKept (selected cut) from g → IsNextKept (written_of cut) from g
+  pub in_next : (from g : ℕ) → IsNextKept (selected cut) from g → IsNextKept (written_content cut) from g
   in_next from g next = record {
     from_on = next.from_on;
     within = subst (λ (n : ℕ). g ≤ n) (sym in_count) next.within;
@@ -148,10 +147,10 @@ module _ (cut : Held) (ok : fault_of cut.0 cut.1.0 ≡ None) where
 
 -- what is in a slot, where there is a table anew and where there is none
 module _ (held now : Held) (same : held ≡ now) (made : Made) (is : IsMade held made) (slot : ℕ) where
-  pub made_some : (b : List ℕ) → made_at made slot ≡ Some b → (written_of now).copied slot ≡ Some b
-  made_some b some = subst (λ (k : Held). (written_of k).copied slot ≡ Some b) same
+  pub made_some : (b : List ℕ) → made_at made slot ≡ Some b → (written_content now).copied slot ≡ Some b
+  made_some b some = subst (λ (k : Held). (written_content k).copied slot ≡ Some b) same
       (sym (is slot) ∙ ap (λ o. option_or o ((selected held).copied slot)) some)
 
-  pub made_not : made_at made slot ≡ None → (selected held).copied slot ≡ (written_of now).copied slot
+  pub made_not : made_at made slot ≡ None → (selected held).copied slot ≡ (written_content now).copied slot
   made_not none = ap (λ o. option_or o ((selected held).copied slot)) (sym none) ∙ is slot
-      ∙ ap (λ (k : Held). (written_of k).copied slot) same
+      ∙ ap (λ (k : Held). (written_content k).copied slot) same

@@ -8,22 +8,22 @@ use Rattle.font_glyph.specs.Marks.{has}
 use Rattle.font_glyph.specs.Reach.{any_below}
 use Rattle.font_tables.specs.Fields.{glyph_count_of}
 use Rattle.font_tables.specs.Outlines.{outline_of}
-use Rattle.font_theory.specs.Content.{font_of, glyph_count}
-use Rattle.font_theory.specs.Kinds.{font_as, full_settings, has_record, layout_settings, lean_settings, settings}
-use Rattle.font_theory.specs.Kinds.{tables_as, there_by, variable_settings}
+use Rattle.font_theory.specs.Content.{glyph_count, plain_font}
+use Rattle.font_theory.specs.Kinds.{font_of, full_settings, has_record, layout_settings, lean_settings, settings}
+use Rattle.font_theory.specs.Kinds.{tables_of, there_by, variable_settings}
 use Rattle.font_theory.specs.declared.kinds.Kind.{Kind}
 use Rattle.font_theory.specs.declared.kinds.Kind.TheVariants.{Full, Layout, Lean, Variable}
 use Rattle.font_theory.proofs.FileWantedLemmas.{outline-file}
 use Rattle.font_theory.proofs.SettingsLemmas.{there-low}
-use Rattle.divided_tables.specs.Open.{OpenParts, has_parts}
+use Rattle.divided_tables.specs.DividedTables.{OpenParts, count_in, has_parts}
 use Rattle.divided_tables.proofs.KindPartLemmas.{parts_as}
-use Rattle.divided_tables.proofs.OpenLemmas.{has_parts-is}
+use Rattle.divided_tables.proofs.OpenLemmas.{count_open, has_parts-is}
 use Rattle.font_subset.specs.Inside.{AreNumbered, IsPresence}
 use Rattle.font_subset.proofs.KindSourceLemmas.{divides_all, unread_file}
 use Rattle.font_subset.proofs.SourceLemmas.{count_as}
 
 -- in full cuts no glyph is there
-pub none_there : (file : List ℕ) (g : ℕ) → (font_as Full file).there g ≡ false
+pub none_there : (file : List ℕ) (g : ℕ) → (font_of Full file).there g ≡ false
 unfolding full_settings there_by
 none_there file g = refl
 
@@ -51,47 +51,47 @@ pub no_length : (b : List ℕ) → nat_eq (length b) 0 ≡ true → length b ≡
 no_length b h = eqb-true (length b) 0 h
 
 pub count_held : (kind : Kind) (file : List ℕ) (tables : OpenParts) → IsPresence kind file tables
-    → glyph_count_of file ≡ tables.across.count
-count_held kind file tables is = count_as kind file ∙ sym is.are_open.across_is.count_is
+    → glyph_count_of file ≡ count_in tables
+count_held kind file tables is = count_as kind file ∙ sym (count_open (tables_of kind file) tables is.are_open)
 
 module _ (kind : Kind) (file : List ℕ) (tables : OpenParts) (is : IsPresence kind file tables) (g : ℕ)
     (low : g < glyph_count_of file) where
-  pub glyph : g < tables.across.count
+  pub glyph : g < count_in tables
   glyph = subst (λ (n : ℕ). g < n) (count_held kind file tables is) low
 
   -- a glyph is there that has an outline or a part
-  there_is : (font_as kind file).there g ≡ (nat_lt 0 (length (outline_of file g)) || has_parts tables g)
+  there_is : (font_of kind file).there g ≡ (nat_lt 0 (length (outline_of file g)) || has_parts tables g)
   unfolding there_by has_record
   there_is =
       let some = divides_all kind is.numbered in
-      let within : g < glyph_count (tables_as kind file) = subst (λ (n : ℕ). g < n) (count_as kind file) low in
-      (λ i. by_number kind is.numbered i && (lt-ltb g (glyph_count (tables_as kind file)) within i
+      let within : g < glyph_count (tables_of kind file) = subst (λ (n : ℕ). g < n) (count_as kind file) low in
+      (λ i. by_number kind is.numbered i && (lt-ltb g (glyph_count (tables_of kind file)) within i
       && (nat_lt 0 (length (outline-file file g low i)) || any_below (λ slot. nat_lt 0 (length (parts_as kind some
-      (tables_as kind file) (unread_file kind file) slot g i))) ALL_SLOTS)))
+      (tables_of kind file) (unread_file kind file) slot g i))) ALL_SLOTS)))
       ∙ ap (λ b. nat_lt 0 (length (outline_of file g)) || b)
-      (sym (has_parts-is (tables_as kind file) tables is.are_open g within))
+      (sym (has_parts-is (tables_of kind file) tables is.are_open g within))
 
-  pub there_outline : 0 < length (outline_of file g) → (font_as kind file).there g ≡ true
+  pub there_outline : 0 < length (outline_of file g) → (font_of kind file).there g ≡ true
   there_outline some = there_is ∙ or_left _ _ (some_bytes (outline_of file g) some)
 
   pub there_parts : (b : Bool) → length (outline_of file g) ≡ 0 → b ≡ has_parts tables g
-      → b ≡ (font_as kind file).there g
+      → b ≡ (font_of kind file).there g
   there_parts b empty parts = parts ∙ sym (there_is ∙ ap (λ (n : ℕ). nat_lt 0 n || has_parts tables g) empty)
 
 -- no number past the glyphs is there
-pub none_past : (kind : Kind) (file : List ℕ) (g : ℕ) → glyph_count_of file ≤ g → (font_as kind file).there g ≡ false
+pub none_past : (kind : Kind) (file : List ℕ) (g : ℕ) → glyph_count_of file ≤ g → (font_of kind file).there g ≡ false
 none_past kind file g past = false_from_ne_true _ (λ t.
-    let low = there-low (settings kind) (tables_as kind file) (font_of file).outline g t in
+    let low = there-low (settings kind) (tables_of kind file) (plain_font file).outline g t in
     omega (arith, low, past, count_as kind file))
 
 -- all glyphs are those below the count
 pub all_there : (kind : Kind) (file : List ℕ) (n : ℕ) → n ≡ glyph_count_of file → (g : ℕ)
-    → (nat_lt g n && (font_as kind file).there g) ≡ (font_as kind file).there g
+    → (nat_lt g n && (font_of kind file).there g) ≡ (font_of kind file).there g
 all_there kind file n is g = elim (cases_lt g n) [
-  | inl low ↦ ap (λ b. b && (font_as kind file).there g) (lt-ltb g n low)
+  | inl low ↦ ap (λ b. b && (font_of kind file).there g) (lt-ltb g n low)
   | inr past ↦
       let gone = none_past kind file g (omega (arith, past, is)) in
-      ap (λ b. b && (font_as kind file).there g) (le-ltb g n past) ∙ sym gone
+      ap (λ b. b && (font_of kind file).there g) (le-ltb g n past) ∙ sym gone
 ]
 
 -- marks of glyphs that are there

@@ -11,7 +11,7 @@ use Rattle.codes.specs.Runs.{IsRun, NoRun}
 use Rattle.codes.specs.declared.runs.Run.{Run}
 use Rattle.font_glyph.specs.Reach.{Reach}
 use Rattle.font_theory.specs.Content.{CODES, Wanted, is_kept, is_root, is_seed}
-use Rattle.font_theory.specs.Kinds.{fault_of, font_as, settings}
+use Rattle.font_theory.specs.Kinds.{fault_of, font_of, settings}
 use Rattle.font_theory.specs.declared.kinds.Kind.{Kind}
 use Rattle.font_theory.specs.declared.kinds.Kind.TheVariants.{Full, Layout, Lean, Variable}
 use Rattle.font_theory.proofs.KindFileLemmas.{is_kept-by}
@@ -130,19 +130,19 @@ run_within file wanted from run accepted is =
 
 -- with the wanted glyphs that are there, or in full cuts alone, the seeds are the roots
 pub roots_numbered : (kind : Kind) (file : List ℕ) (wanted : Wanted) (seeds marks : List Bool)
-    → IsSeedSet file wanted.codes seeds → AreNumbered (font_as kind file).there wanted.glyphs seeds marks
+    → IsSeedSet file wanted.codes seeds → AreNumbered (font_of kind file).there wanted.glyphs seeds marks
     → IsRootSet kind file wanted marks
 unfolding is_root
 roots_numbered kind file wanted seeds marks is more = record {
   count = more.count ∙ is.count;
-  roots = λ g. more.marked g ∙ ap (λ b. b || (wanted.glyphs g && (font_as kind file).there g)) (is.seeds g);
+  roots = λ g. more.marked g ∙ ap (λ b. b || (wanted.glyphs g && (font_of kind file).there g)) (is.seeds g);
 }
 
 pub roots_full : (kind : Kind) (file : List ℕ) (wanted : Wanted) (seeds : List Bool) → kind ≡ Full
     → IsSeedSet file wanted.codes seeds → IsRootSet kind file wanted seeds
 roots_full Full file wanted seeds full is = record {
   count = is.count;
-  roots = λ g. is.seeds g ∙ sym (ap (λ s. s g) (is_root-none (font_as Full file) wanted (none_there file)));
+  roots = λ g. is.seeds g ∙ sym (ap (λ s. s g) (is_root-none (font_of Full file) wanted (none_there file)));
 }
 roots_full Lean file wanted seeds full is = absurd (let n : Lean ≡ Full = full in cc)
 roots_full Layout file wanted seeds full is = absurd (let n : Layout ≡ Full = full in cc)
@@ -150,20 +150,20 @@ roots_full Variable file wanted seeds full is = absurd (let n : Variable ≡ Ful
 
 -- what is reached from the roots is what a cut keeps
 is_kept_as : (kind : Kind) (file : List ℕ) (wanted : Wanted) → fault_of kind file ≡ None → (g : ℕ)
-    → Decides (is_kept (font_as kind file) wanted g)
-    (Reach (outline_of file) (is_root (font_as kind file) wanted) g)
+    → Decides (is_kept (font_of kind file) wanted g)
+    (Reach (outline_of file) (is_root (font_of kind file) wanted) g)
 is_kept_as kind file wanted accepted g = is_kept-by (settings kind) (settings-are kind) file accepted wanted g
 
 pub kept_marked : (kind : Kind) (file : List ℕ) (wanted : Wanted) (roots marks : List Bool)
     → fault_of kind file ≡ None → IsRootSet kind file wanted roots → length marks ≡ glyph_count_of file
     → ((g : ℕ) → has marks g ≡ true ↔ Reach (outline_of file) (has roots) g) → IsKeptSet kind file wanted marks
 kept_marked kind file wanted roots marks accepted is count reached =
-    let same : has roots ≡ is_root (font_as kind file) wanted = fun_ext is.roots in
+    let same : has roots ≡ is_root (font_of kind file) wanted = fun_ext is.roots in
     record {
       count = count;
       kept = λ g.
           let decided = is_kept_as kind file wanted accepted g in
-          both_ways (has marks g) (is_kept (font_as kind file) wanted g)
+          both_ways (has marks g) (is_kept (font_of kind file) wanted g)
           (λ h. decided.1 (subst (λ (s : ℕ → Bool). Reach (outline_of file) s g) same ((reached g).0 h)))
           (λ h. (reached g).1 (subst (λ (s : ℕ → Bool). Reach (outline_of file) s g) (sym same) (decided.0 h)));
     }

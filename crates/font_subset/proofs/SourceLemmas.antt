@@ -1,12 +1,12 @@
 -- What a font gives to its cuts.
 use Rattle.std.proofs.Common.{◌≡◌, ℕ, zero, suc, ◌+◌, ◌-◌, ◌<◌, ◌≤◌, Bool, true, false, List, [], ◌∷◌}
 use Rattle.std.proofs.Common.{nat_lt, length, slice_range, drop, Option, None, Some, refl, sym, ◌∙◌, ap, subst, arith}
-use Rattle.std.proofs.Common.{MatchOption, cond, nat_le}
+use Rattle.std.proofs.Common.{MatchOption, cond, inl, inr, nat_le}
 use Rattle.std.specs.Option.{option_map, unwrap_or, is_some, IsSome}
 use Rattle.std.proofs.lemmas.List.{length-drop, length-take}
 use Rattle.std.proofs.lemmas.Bool.{false_from_ne_true, le-leb, le-ltb, or_right}
 use Rattle.sfnt_bytes.specs.Directory.{is_layout_slot, kept_tag, slot_tag, table_bytes, table_entry, table_of}
-use Rattle.sfnt_bytes.specs.declared.tag.TheConstants.{ALL_SLOTS, FIRST_VARIATION, GVAR, SLOTS}
+use Rattle.sfnt_bytes.specs.declared.tag.TheConstants.{ALL_SLOTS, FIRST_VARIATION, SLOTS}
 use Rattle.sfnt_bytes.specs.Lines.{when}
 use Rattle.sfnt_bytes.specs.declared.directory.TheConstants.{MAX_FILE}
 use Rattle.sfnt_bytes.specs.declared.records.Entry.{Entry}
@@ -19,13 +19,12 @@ use Rattle.font_theory.specs.Bytes.{padded}
 use Rattle.font_glyph.specs.Marks.{NoMark, has}
 use Rattle.font_write.specs.Parts.{IsNextKept}
 use Rattle.font_write.proofs.MeasureLemmas.{none_if}
-use Rattle.font_theory.specs.Content.{Content, IsFont, IsWritable, KeepsComponents, Wanted, content, font_of}
-use Rattle.font_theory.specs.Content.{glyph_count}
-use Rattle.font_theory.specs.Content.{is_kept, is_made, is_never_copied, is_never_in_layout, table_in_slot}
-use Rattle.font_theory.specs.Kinds.{fault_of, font_as, full_settings, layout_settings, lean_settings, read_by, settings}
-use Rattle.font_theory.specs.Kinds.{tables_as}
+use Rattle.font_theory.specs.Content.{Content, IsFont, IsWritable, KeepsComponents, Wanted, content, glyph_count}
+use Rattle.font_theory.specs.Content.{is_kept, is_made, is_never_copied, is_never_in_layout, plain_font, table_in_slot}
+use Rattle.font_theory.specs.Kinds.{Reading, fault_of, font_of, layout_settings, read_by, settings, tables_of}
 use Rattle.font_theory.specs.Kinds.{variable_settings}
 use Rattle.font_theory.specs.Kinds.Reading.{absent, as_it_is, unvarying}
+use Rattle.font_theory.specs.Parting.{may_divide}
 use Rattle.font_theory.specs.declared.kinds.Kind.TheVariants.{Full, Layout, Lean, Variable}
 use Rattle.font_theory.specs.declared.kinds.Kind.{Kind}
 use Rattle.font_theory.proofs.KindLemmas.{full_fault-is, full_font-is, lean_fault-is, lean_tables-is, settings-are}
@@ -34,9 +33,11 @@ use Rattle.font_theory.proofs.ContentLemmas.{IsClosed-content}
 use Rattle.font_theory.proofs.FileWantedLemmas.{outline-file}
 use Rattle.font_theory.proofs.HeldLemmas.{KeepsComponents-closed}
 use Rattle.font_theory.proofs.WritableLemmas.{IsWritable-closed}
-use Rattle.font_subset.specs.KeptGlyphs.{Asked, AreVariationsIn, IsKeptSet, selected}
+use Rattle.font_subset.specs.KeptGlyphs.{Asked, IsKeptSet, selected}
 use Rattle.font_subset.specs.KeptGlyphs.{wanted_in}
 use Rattle.font_subset.specs.Inside.{slots_of}
+use Rattle.divided_tables.specs.DividedTables.{AreFine, has_refused}
+use Rattle.divided_tables.proofs.KindPartLemmas.{fine_font, read_divided, refused-is}
 use Rattle.font_theory.proofs.FontLemmas.{are_sound, glyph_count-file, size-accepted}
 use Rattle.font_theory.proofs.FontLemmas.{table_fault-accepted}
 use Rattle.font_theory.proofs.CutHeadLemmas.{head-size}
@@ -73,14 +74,15 @@ pub head_small : (file : List ℕ) → font_fault file ≡ None → length (head
 unfolding table_or_empty
 head_small file accepted = table_small file head_tag accepted
 
--- nor is a `gvar`
-pub short_gvar : (kind : Kind) (file : List ℕ) → font_fault file ≡ None
-    → length (table_in_slot (tables_as kind file) GVAR) ≤ MAX_FILE
-unfolding full_settings lean_settings layout_settings variable_settings
-short_gvar Full file accepted = omega arith
-short_gvar Lean file accepted = omega arith
-short_gvar Layout file accepted = omega arith
-short_gvar Variable file accepted = table_small file (slot_tag GVAR) accepted
+-- nor is one that cuts of a kind may divide
+short_table : (kind : Kind) (file : List ℕ) → font_fault file ≡ None → (slot : ℕ) → may_divide slot ≡ true
+    → length (table_in_slot (tables_of kind file) slot) ≤ MAX_FILE
+short_table kind file accepted slot t =
+    let P : Reading → Type 0 = λ r. length (unwrap_or (read_by r slot (table_of file (slot_tag slot))) []) ≤ MAX_FILE in
+    elim (read_divided kind slot t) [
+      | inl unread ↦ subst P (sym unread) (omega arith)
+      | inr read ↦ subst P (sym read) (table_small file (slot_tag slot) accepted)
+    ]
 
 -- nor is an outline
 pub outline_small : (file : List ℕ) (g : ℕ) → font_fault file ≡ None → length (outline_of file g) ≤ MAX_FILE
@@ -94,27 +96,27 @@ outline_small file g accepted =
     )
 
 -- what an accepted file means to cuts of a kind is a font
-pub is_font : (kind : Kind) (file : List ℕ) → fault_of kind file ≡ None → IsFont (font_as kind file)
+pub is_font : (kind : Kind) (file : List ℕ) → fault_of kind file ≡ None → IsFont (font_of kind file)
 is_font kind file accepted = IsFont-by (settings kind) (settings-are kind) file accepted
 
 -- the count of glyphs is read of a table that is copied
-pub count_as : (kind : Kind) (file : List ℕ) → glyph_count_of file ≡ glyph_count (tables_as kind file)
+pub count_as : (kind : Kind) (file : List ℕ) → glyph_count_of file ≡ glyph_count (tables_of kind file)
 count_as kind file = sym (count_by (settings kind) (settings-are kind) file ∙ glyph_count-file file)
 
 -- a file of the content can be written, and it keeps what its own outlines are made of
 pub is_writable : (cut : Held) → fault_of cut.0 cut.1.0 ≡ None → IsWritable (selected cut)
 is_writable cut accepted =
-    IsWritable-closed (selected cut) (IsClosed-content (font_as cut.0 cut.1.0) (wanted_in cut.1.1)
+    IsWritable-closed (selected cut) (IsClosed-content (font_of cut.0 cut.1.0) (wanted_in cut.1.1)
     (is_font cut.0 cut.1.0 accepted))
 
 pub keeps_components : (cut : Held) → fault_of cut.0 cut.1.0 ≡ None → KeepsComponents (selected cut)
 keeps_components cut accepted =
-    KeepsComponents-closed (selected cut) (IsClosed-content (font_as cut.0 cut.1.0) (wanted_in cut.1.1)
+    KeepsComponents-closed (selected cut) (IsClosed-content (font_of cut.0 cut.1.0) (wanted_in cut.1.1)
     (is_font cut.0 cut.1.0 accepted))
 
 -- the tables by slot
 pub copied_low : (kind : Kind) (file : List ℕ) (slot : ℕ) → slot < SLOTS
-    → (font_of file).copied slot ≡ tables_as kind file slot
+    → (plain_font file).copied slot ≡ tables_of kind file slot
 copied_low kind file slot low = sym (tables_by-below (settings kind) (settings-are kind) file slot low)
 
 -- an accepted font is accepted for full and for lean cuts
@@ -125,11 +127,11 @@ pub lean_accepted : (file : List ℕ) → font_fault file ≡ None → fault_of 
 lean_accepted file h = lean_fault-is file ∙ h
 
 -- which further tables a kind reads
-plain_further : (file : List ℕ) (slot : ℕ) → SLOTS ≤ slot → (font_of file).copied slot ≡ None
+plain_further : (file : List ℕ) (slot : ℕ) → SLOTS ≤ slot → (plain_font file).copied slot ≡ None
 plain_further file slot past =
     let made : is_made slot ≡ true = or_right _ (nat_le SLOTS slot) (le-leb SLOTS slot past) in rw made refl
 
-layout_further : (file : List ℕ) (slot : ℕ) → FIRST_VARIATION ≤ slot → tables_as Layout file slot ≡ None
+layout_further : (file : List ℕ) (slot : ℕ) → FIRST_VARIATION ≤ slot → tables_of Layout file slot ≡ None
 unfolding layout_settings
 layout_further file slot far =
     let never : is_never_in_layout slot ≡ true = or_right _ (nat_le FIRST_VARIATION slot) (le-leb FIRST_VARIATION slot
@@ -137,14 +139,14 @@ layout_further file slot far =
     ap (λ b. read_by (cond b absent (cond (is_layout_slot slot) unvarying as_it_is)) slot
     (table_of file (slot_tag slot))) never
 
-variable_further : (file : List ℕ) (slot : ℕ) → ALL_SLOTS ≤ slot → tables_as Variable file slot ≡ None
+variable_further : (file : List ℕ) (slot : ℕ) → ALL_SLOTS ≤ slot → tables_of Variable file slot ≡ None
 unfolding variable_settings
 variable_further file slot far =
     let never : is_never_copied slot ≡ true = or_right _ (nat_le ALL_SLOTS slot) (le-leb ALL_SLOTS slot far) in
     ap (λ b. read_by (cond b absent as_it_is) slot (table_of file (slot_tag slot))) never
 
 pub unread : (kind : Kind) (file : List ℕ) (slot : ℕ) → SLOTS ≤ slot → slots_of kind ≤ slot
-    → tables_as kind file slot ≡ None
+    → tables_of kind file slot ≡ None
 unread Full file slot past far = ap (λ F. F.copied slot) (full_font-is file) ∙ plain_further file slot past
 unread Lean file slot past far = lean_tables-is file slot ∙ plain_further file slot past
 unread Layout file slot past far = layout_further file slot far
@@ -152,12 +154,9 @@ unread Variable file slot past far = variable_further file slot far
 
 -- full cuts read none
 pub full_further : (kind : Kind) (file : List ℕ) (slot : ℕ) → kind ≡ Full → SLOTS ≤ slot
-    → tables_as kind file slot ≡ None
+    → tables_of kind file slot ≡ None
 full_further kind file slot full past =
     let last : slots_of kind ≡ SLOTS = ap slots_of full in unread kind file slot past (omega (arith, last, past))
-
-pub variations_full : (kind : Kind) (file : List ℕ) → kind ≡ Full → AreVariationsIn kind file None
-variations_full kind file full = sym (ap (option_map _) (full_further kind file GVAR full (omega arith)))
 
 -- a file that is accepted for cuts of a kind is a font
 pub opened : (kind : Kind) (file : List ℕ) → fault_of kind file ≡ None → font_fault file ≡ None
@@ -181,17 +180,18 @@ is_some-when false x = refl
 module _ (kind : Kind) (file : List ℕ) (wanted : Wanted) (marks : List Bool) (kept : IsKeptSet kind file wanted marks)
   where
     abbrev K : Content
-    K = content (font_as kind file) wanted
+    K = content (font_of kind file) wanted
 
     pub kept_below : (g : ℕ) → IsSome (K.outline g) → g < glyph_count_of file
     kept_below g some =
-        let marked = kept.kept g ∙ when-some (is_kept (font_as kind file) wanted g) (padded ((font_of file).outline g))
+        let marked = kept.kept g
+        ∙ when-some (is_kept (font_of kind file) wanted g) (padded ((plain_font file).outline g))
         some in
         omega (arith, has-past marks g marked, kept.count)
 
     pub kept_is : (g : ℕ) → has marks g ≡ is_some (K.outline g)
     kept_is g = kept.kept g
-        ∙ sym (is_some-when (is_kept (font_as kind file) wanted g) (padded ((font_of file).outline g)))
+        ∙ sym (is_some-when (is_kept (font_of kind file) wanted g) (padded ((plain_font file).outline g)))
 
     pub not_kept : (g : ℕ) → glyph_count_of file ≤ g → nat_lt g (glyph_count_of file) ≡ is_some (K.outline g)
     not_kept g past =
@@ -201,14 +201,14 @@ module _ (kind : Kind) (file : List ℕ) (wanted : Wanted) (marks : List Bool) (
 
     pub kept_outline : (g : ℕ) → IsSome (K.outline g) → K.outline g ≡ Some (padded (outline_of file g))
     kept_outline g some =
-        let is = when-some (is_kept (font_as kind file) wanted g) (padded ((font_of file).outline g)) some in
-        ap (λ b. when b (padded ((font_of file).outline g))) is
+        let is = when-some (is_kept (font_of kind file) wanted g) (padded ((plain_font file).outline g)) some in
+        ap (λ b. when b (padded ((plain_font file).outline g))) is
         ∙ ap (λ (b : List ℕ). Some (padded b)) (outline-file file g (kept_below g some))
 
     pub next_is : (from g : ℕ) → from ≤ g → g ≤ length marks → NoMark marks from g
         → (g < length marks → has marks g ≡ true) → IsNextKept K from g
     next_is from g on within none here =
-        let count : length marks ≡ glyph_count (tables_as kind file) = kept.count ∙ count_as kind file in
+        let count : length marks ≡ glyph_count (tables_of kind file) = kept.count ∙ count_as kind file in
         record {
           from_on = on;
           within = omega (arith, within, count);
@@ -222,3 +222,11 @@ pub looked_up : {X : Type 0} (bytes : X → List ℕ) (o : Option X) (t : Option
 looked_up bytes None t most is small = tt
 looked_up bytes (Some x) t most is small = subst (λ (o : Option (List ℕ)). length (unwrap_or o []) ≤ most) (sym is)
     small
+
+-- no table that such cuts may divide is bad, or too long
+pub fine_tables : (kind : Kind) (file : List ℕ) → fault_of kind file ≡ None → AreFine (tables_of kind file)
+fine_tables kind file ok = fine_font (font_of kind file) (is_font kind file ok)
+    (short_table kind file (opened kind file ok))
+
+pub not_refused : (kind : Kind) (file : List ℕ) → fault_of kind file ≡ None → has_refused (tables_of kind file) ≡ false
+not_refused kind file ok = refused-is (tables_of kind file) ∙ (is_font kind file ok).variations

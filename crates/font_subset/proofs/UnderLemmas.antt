@@ -8,7 +8,8 @@ use Rattle.codes.specs.CharacterMap.{is_mapped, restricted}
 use Rattle.codes.specs.Runs.{IsRun, NoRun}
 use Rattle.codes.specs.Wanted.{codes_between, either, no_codes}
 use Rattle.codes.specs.declared.runs.Run.{Run}
-use Rattle.font_theory.specs.Content.{Content, Font, Wanted, content, everything, font_of, is_kept, of_codes, within}
+use Rattle.font_theory.specs.Content.{Content, Font, Wanted, content, everything, is_kept, of_codes, plain_font}
+use Rattle.font_theory.specs.Content.{wanted_within}
 use Rattle.font_theory.specs.Cut.{Format, IsFormat, Under, Writes, our_format, wanted_of}
 use Rattle.font_theory.specs.Kinds.{fault_of, format_by, format_of}
 use Rattle.font_theory.specs.declared.kinds.Kind.{Kind}
@@ -31,7 +32,7 @@ beside x from first last c b on order is gap all =
         | inl below ↦ let z : x ≡ 0 = gap high below in grind (arith, nat_tests)
         | inr at ↦ elim (cases_lt last c) [
           | inl past ↦ grind (arith, nat_tests)
-          | inr within ↦ let some : 0 < x = all at within in grind (arith, nat_tests)
+          | inr wanted_within ↦ let some : 0 < x = all at wanted_within in grind (arith, nat_tests)
         ]
       ]
     ]
@@ -71,7 +72,7 @@ module _ (R : Format) (law : IsFormat R) where
   Under-cut X F A ok h w = record {
     accepted = h;
     written = subst (λ (K : Content). Writes R K X)
-        (sym (ap (content (R.font F)) own ∙ content-mapped (R.font F) _ (within (R.font F) A everything)
+        (sym (ap (content (R.font F)) own ∙ content-mapped (R.font F) _ (wanted_within (R.font F) A everything)
         (law.is_font F h) (λ c some. same_mapped (A.codes c) ((R.font F).map c) some)
         (λ g there. ap (λ t. is_kept (R.font F) A g && t) there)
         ∙ content-all (R.font F) A (law.is_font F h)))
@@ -118,7 +119,7 @@ module _ (kind : Kind) (b : Bool) (made font : List ℕ) (ok : fault_of kind mad
           ∙ ok) ((kind_is kind).fault_is font ∙ accepted) v.1)),
     )
 
-our_font : (X : List ℕ) → our_format.font X ≡ font_of X
+our_font : (X : List ℕ) → our_format.font X ≡ plain_font X
 unfolding our_format
 our_font X = refl
 
@@ -130,7 +131,7 @@ is_cut_of_codes font made accepted = (
   λ w. (let v = w in (of_codes v.0, v.1)),
 )
   where
-    full_font : (format_of Full).font font ≡ font_of font
+    full_font : (format_of Full).font font ≡ plain_font font
     full_font = ap (λ (R : Format). R.font font) full-is ∙ our_font font
 
     same : (W : Wanted) → content ((format_of Full).font font) W

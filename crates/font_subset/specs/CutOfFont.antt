@@ -8,24 +8,24 @@ use Rattle.font_tables.specs.Outlines.{outline_of}
 use Rattle.font_glyph.specs.Reach.{Reach}
 use Rattle.font_file.specs.Font.{font_fault, map_of}
 use Rattle.font_theory.specs.Bytes.{padded}
-use Rattle.font_theory.specs.Content.{content, font_of, of_codes}
+use Rattle.font_theory.specs.Content.{content, of_codes, plain_font}
 use Rattle.font_theory.specs.Cut.{Format, IsCurrent, IsCut, IsOld, Writes, cut, is_current, is_old}
 use Rattle.font_theory.specs.Kinds.{format_of}
 use Rattle.font_theory.specs.declared.kinds.Kind.{Kind}
 use Rattle.font_theory.specs.declared.kinds.Kind.TheVariants.{Full}
 use Rattle.streams.specs.Outlet.{WentOut, broken_of, written_of}
 pub use Rattle.font_write.specs.WholeFile.{IsTooLarge, IsWritten}
-use Rattle.font_subset.specs.declared.cut_font.CutError.{CutError}
-use Rattle.font_subset.specs.declared.cut_font.CutError.TheVariants as cut_errors
-use Rattle.font_subset.specs.declared.cut_font.CutIntoError.{CutIntoError}
-use Rattle.font_subset.specs.declared.cut_font.CutIntoError.TheVariants as into_errors
+use Rattle.font_write.specs.declared.cut_error.CutError.{CutError}
+use Rattle.font_write.specs.declared.cut_error.CutError.TheVariants as cut_errors
+use Rattle.font_write.specs.declared.cut_error.CutIntoError.{CutIntoError}
+use Rattle.font_write.specs.declared.cut_error.CutIntoError.TheVariants as into_errors
 use Rattle.font_subset.specs.declared.forms.CutForm.{CutForm}
 use Rattle.font_subset.specs.declared.forms.CutForm.TheVariants.{Current, Not, Old}
 use Rattle.streams.specs.declared.outlet.Outlet.{Outlet}
 
 -- the cut of a file for the wanted codes
-abbrev pub cut_of : List ℕ → (ℕ → Bool) → List ℕ
-cut_of file wanted = cut (format_of Full) file (of_codes wanted)
+abbrev pub full_cut : List ℕ → (ℕ → Bool) → List ℕ
+full_cut file wanted = cut (format_of Full) file (of_codes wanted)
 
 -- the form in which an accepted file is its own cut for all codes
 unfoldable pub form_in : Format → List ℕ → CutForm
@@ -76,11 +76,11 @@ pub record IsSound (file : List ℕ) (wanted : ℕ → Bool) (made : List ℕ) :
   pub accepted : font_fault made ≡ None
   pub clean : findings_of made ≡ []
   pub metrics : (g : ℕ) → metric_of made g ≡ metric_of file g
-  pub copied : (slot : ℕ) → (font_of made).copied slot ≡ (font_of file).copied slot
+  pub copied : (slot : ℕ) → (plain_font made).copied slot ≡ (plain_font file).copied slot
   pub wanted_codes : (c : ℕ) → wanted c ≡ true → map_of made c ≡ map_of file c
   pub other_codes : (c : ℕ) → wanted c ≡ false → map_of made c ≡ 0
   pub kept :
       (c : ℕ) → wanted c ≡ true → (g : ℕ) → Reach (outline_of file) (nat_eq (map_of file c)) g →
       outline_of made g ≡ padded (outline_of file g)
   pub cut_form : IsCurrent (format_of Full) made
-  pub cuts : (others : ℕ → Bool) → cut_of made others ≡ cut_of file (λ c. wanted c && others c)
+  pub cuts : (others : ℕ → Bool) → full_cut made others ≡ full_cut file (λ c. wanted c && others c)

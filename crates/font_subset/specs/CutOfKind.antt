@@ -11,24 +11,24 @@ use Rattle.font_glyph.specs.Reach.{Reach}
 use Rattle.codes.specs.CharacterMap.{is_mapped}
 use Rattle.font_file.specs.Font.{map_of}
 use Rattle.font_theory.specs.Bytes.{padded}
-use Rattle.font_theory.specs.Content.{Wanted, content, is_kept, is_never_copied, of_codes, within}
+use Rattle.font_theory.specs.Content.{Wanted, content, is_kept, is_never_copied, of_codes, wanted_within}
 use Rattle.font_theory.specs.Cut.{IsCurrent, Writes, cut}
-use Rattle.font_theory.specs.Kinds.{fault_of, font_as, format_of, gsub_as, partition_of, reduced, tables_as}
+use Rattle.font_theory.specs.Kinds.{fault_of, font_of, format_of, gsub_bytes, partition_of, reduced, tables_of}
 use Rattle.font_theory.specs.Closed.{closed}
 use Rattle.font_theory.specs.Links.{links}
 use Rattle.font_theory.specs.Parting.{frames, parts_of, undivided}
 use Rattle.font_theory.specs.declared.kinds.Kind.{Kind}
 use Rattle.font_theory.specs.declared.kinds.Kind.TheVariants.{Full, Layout, Lean, Variable}
-use Rattle.font_subset.specs.CutOfFont.{IsSound, cut_of, form_in}
+use Rattle.font_subset.specs.CutOfFont.{IsSound, form_in, full_cut}
 use Rattle.font_subset.specs.declared.forms.CutForm.{CutForm}
 
 -- the cut of a file for what is wanted, of a kind
-abbrev pub cut_in : Kind → List ℕ → Wanted → List ℕ
-cut_in kind file wanted = cut (format_of kind) file wanted
+abbrev pub cut_of : Kind → List ℕ → Wanted → List ℕ
+cut_of kind file wanted = cut (format_of kind) file wanted
 
 -- the form in which an accepted file is a cut of a kind; all but full cuts have one form
-abbrev pub form_as : Kind → List ℕ → CutForm
-form_as kind file = form_in (format_of kind) file
+abbrev pub kind_form : Kind → List ℕ → CutForm
+kind_form kind file = form_in (format_of kind) file
 
 -- a file is a cut of another for something that is wanted, of a kind and in any form
 abbrev pub IsCutIn : Kind → List ℕ → List ℕ → Type 0
@@ -37,7 +37,7 @@ IsCutIn kind file made =
 
 -- what an accepted file has of what may be wanted of a kind: the codes that it maps, and the glyphs that are there
 abbrev pub own_of : Kind → List ℕ → Wanted
-own_of kind file = record { codes = is_mapped (map_of file); glyphs = (font_as kind file).there }
+own_of kind file = record { codes = is_mapped (map_of file); glyphs = (font_of kind file).there }
 
 -- what is wanted of a file, without numbers that are no glyphs
 abbrev pub in_file : List ℕ → Wanted → Wanted
@@ -45,7 +45,7 @@ in_file file W = record { codes = W.codes; glyphs = λ g. W.glyphs g && nat_lt g
 
 -- what is wanted of a file, closed under the links of its GSUB, without numbers that are no glyphs
 abbrev pub closed_of : Kind → List ℕ → Wanted → Wanted
-closed_of kind file W = closed (links (gsub_as kind file)) (map_of file) (in_file file W)
+closed_of kind file W = closed (links (gsub_bytes kind file)) (map_of file) (in_file file W)
 
 -- cuts of a kind keep the tables of layout, whose links lead from glyph to glyph
 abbrev pub keeps_links : Kind → Bool
@@ -55,16 +55,12 @@ keeps_links Layout = true
 keeps_links Variable = true
 
 -- what a cut is of: what is wanted, closed under links or not
-abbrev pub wanted_with : Bool → Kind → List ℕ → Wanted → Wanted
-wanted_with closes kind file W = if closes then closed_of kind file W else W
-
--- what a cut of codes is of: full and lean cuts of these alone, layout and variable cuts of all that links lead to
-abbrev pub wanted_for : Kind → List ℕ → (ℕ → Bool) → Wanted
-wanted_for kind file codes = wanted_with (keeps_links kind) kind file (of_codes codes)
+abbrev pub closed_if : Bool → Kind → List ℕ → Wanted → Wanted
+closed_if closes kind file W = if closes then closed_of kind file W else W
 
 -- the cut for what is wanted of a file that was opened for cuts of a kind, which are closed under links or not
-abbrev pub cut_as : Kind × (List ℕ × Bool) → Wanted → List ℕ
-cut_as font W = cut_in font.0 font.1.0 (wanted_with font.1.1 font.0 font.1.0 W)
+abbrev pub opened_font_cut : Kind × (List ℕ × Bool) → Wanted → List ℕ
+opened_font_cut font W = cut_of font.0 font.1.0 (closed_if font.1.1 font.0 font.1.0 W)
 
 -- a cut of a kind is accepted, has no finding, maps the wanted codes as the font does and no others, keeps the
 -- outlines of what components lead to from their glyphs and from wanted glyphs that are there, up to zeros after them,
@@ -80,38 +76,38 @@ pub record IsSoundAs (kind : Kind) (file : List ℕ) (wanted : Wanted) (made : L
       (c : ℕ) → wanted.codes c ≡ true → (g : ℕ) → Reach (outline_of file) (nat_eq (map_of file c)) g →
       outline_of made g ≡ padded (outline_of file g)
   pub kept_glyphs :
-      (r : ℕ) → wanted.glyphs r ≡ true → (font_as kind file).there r ≡ true → (g : ℕ) →
+      (r : ℕ) → wanted.glyphs r ≡ true → (font_of kind file).there r ≡ true → (g : ℕ) →
       Reach (outline_of file) (nat_eq r) g → outline_of made g ≡ padded (outline_of file g)
-  pub metrics : (g : ℕ) → is_kept (font_as kind file) wanted g ≡ true → metric_of made g ≡ metric_of file g
+  pub metrics : (g : ℕ) → is_kept (font_of kind file) wanted g ≡ true → metric_of made g ≡ metric_of file g
   pub parts :
-      (g : ℕ) → is_kept (font_as kind file) wanted g ≡ true → (slot : ℕ) →
-      parts_of (partition_of kind) (tables_as kind made) slot g
-      ≡ parts_of (partition_of kind) (tables_as kind file) slot g
+      (g : ℕ) → is_kept (font_of kind file) wanted g ≡ true → (slot : ℕ) →
+      parts_of (partition_of kind) (tables_of kind made) slot g
+      ≡ parts_of (partition_of kind) (tables_of kind file) slot g
   pub no_parts :
-      (g : ℕ) → is_kept (font_as kind file) wanted g ≡ false → (slot : ℕ) →
-      parts_of (partition_of kind) (tables_as kind made) slot g ≡ []
+      (g : ℕ) → is_kept (font_of kind file) wanted g ≡ false → (slot : ℕ) →
+      parts_of (partition_of kind) (tables_of kind made) slot g ≡ []
   pub frames :
-      (slot : ℕ) → frames (partition_of kind) (tables_as kind made) slot
-      ≡ frames (partition_of kind) (tables_as kind file) slot
+      (slot : ℕ) → frames (partition_of kind) (tables_of kind made) slot
+      ≡ frames (partition_of kind) (tables_of kind file) slot
   pub tables :
       (slot : ℕ) → is_never_copied slot ≡ false →
-      table_of made (slot_tag slot) ≡ (reduced (partition_of kind) (content (font_as kind file) wanted)).copied slot
+      table_of made (slot_tag slot) ≡ (reduced (partition_of kind) (content (font_of kind file) wanted)).copied slot
   pub undivided :
       (slot : ℕ) → is_never_copied slot ≡ false → partition_of kind slot ≡ undivided →
-      table_of made (slot_tag slot) ≡ tables_as kind file slot
+      table_of made (slot_tag slot) ≡ tables_of kind file slot
   pub form : IsCurrent (format_of kind) made
   pub cuts :
       (others : Wanted) →
-      cut_in kind made others ≡ cut_in kind file (within ((format_of kind).font file) wanted others)
+      cut_of kind made others ≡ cut_of kind file (wanted_within ((format_of kind).font file) wanted others)
 
 -- a lean cut for codes alone is a full cut too, namely of itself, and no longer than the full cut; so is one that is
 -- its own cut for its codes alone
 pub record IsLeanSound (file : List ℕ) (wanted : Wanted) (made : List ℕ) : Type 0 where
   pub lean : IsSoundAs Lean file wanted made
   pub full : ((g : ℕ) → wanted.glyphs g ≡ false) → IsCurrent (format_of Full) made
-  pub full_by_codes : cut_in Lean made (of_codes (λ _. true)) ≡ made → IsCurrent (format_of Full) made
+  pub full_by_codes : cut_of Lean made (of_codes (λ _. true)) ≡ made → IsCurrent (format_of Full) made
   pub no_longer :
-      ((g : ℕ) → wanted.glyphs g ≡ false) → length made ≤ length (cut_of file wanted.codes)
+      ((g : ℕ) → wanted.glyphs g ≡ false) → length made ≤ length (full_cut file wanted.codes)
 
 -- what a cut of a kind holds of its font
 abbrev pub IsSoundIn : Kind → List ℕ → Wanted → List ℕ → Type 0
@@ -122,4 +118,4 @@ IsSoundIn Variable file wanted made = IsSoundAs Variable file wanted made
 
 -- what the cut of an opened font holds of it
 abbrev pub IsSoundCut : Kind × (List ℕ × Bool) → Wanted → List ℕ → Type 0
-IsSoundCut font W made = IsSoundIn font.0 font.1.0 (wanted_with font.1.1 font.0 font.1.0 W) made
+IsSoundCut font W made = IsSoundIn font.0 font.1.0 (closed_if font.1.1 font.0 font.1.0 W) made

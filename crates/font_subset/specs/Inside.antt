@@ -5,22 +5,14 @@ use Rattle.font_file.specs.Font.{map_of}
 use Rattle.font_glyph.specs.Marks.{has}
 use Rattle.codes.specs.CharacterMap.{is_mapped, restricted}
 use Rattle.font_tables.specs.Fields.{glyph_count_of}
-use Rattle.divided_tables.specs.Open.{AreOpen, Made, OpenParts, made_at}
+use Rattle.divided_tables.specs.DividedTables.{AreOpen, Made, OpenParts, made_at}
 use Rattle.font_theory.specs.Content.{is_seed, Content}
 use Rattle.font_theory.specs.Cut.{Format}
 use Rattle.font_theory.specs.Closed.{is_bad_layout_in, is_start}
-use Rattle.font_theory.specs.Kinds.{fault_of, gsub_as, tables_as, settings}
+use Rattle.font_theory.specs.Kinds.{fault_of, gsub_bytes, settings, tables_of}
 use Rattle.font_theory.specs.Links.{links}
 use Rattle.font_theory.specs.declared.kinds.Kind.{Kind}
 use Rattle.font_theory.specs.declared.kinds.Kind.TheVariants.{Full, Layout, Lean, Variable}
-use Rattle.font_write.specs.declared.whole_file.FileError.{FileError}
-use Rattle.font_write.specs.declared.whole_file.FileError.TheVariants as file_errors
-use Rattle.font_write.specs.declared.whole_file.SendError.{SendError}
-use Rattle.font_write.specs.declared.whole_file.SendError.TheVariants as send_errors
-use Rattle.font_subset.specs.declared.cut_font.CutError.{CutError}
-use Rattle.font_subset.specs.declared.cut_font.CutError.TheVariants as cut_errors
-use Rattle.font_subset.specs.declared.cut_font.CutIntoError.{CutIntoError}
-use Rattle.font_subset.specs.declared.cut_font.CutIntoError.TheVariants as into_errors
 use Rattle.sfnt_bytes.specs.declared.tag.TheConstants.{BASE, GDEF, GPOS, GSUB, KERN}
 use Rattle.sfnt_bytes.specs.declared.tag.TheConstants.{ALL_SLOTS, FIRST_VARIATION, SLOTS}
 use Rattle.std.specs.Prelude.{◌≡◌, ◌≢◌, ℕ, ◌+◌, ◌<◌, ◌≤◌, ◌⊎◌, ◌↔◌, nat_lt, not, ◌&&◌, ◌||◌, Bool, false, true}
@@ -29,7 +21,7 @@ use Rattle.std.specs.Prelude.{MatchOption, Some, nat_le}
 use Rattle.std.specs.Option.{option_or}
 use Rattle.font_theory.specs.Content.{Wanted}
 use Rattle.font_subset.specs.CutOfKind.{closed_of, in_file}
-use Rattle.font_subset.specs.KeptGlyphs.{Asked, IsKeptSet, selected, written_of, AreVariationsIn}
+use Rattle.font_subset.specs.KeptGlyphs.{Asked, IsKeptSet, selected, written_content}
 use Rattle.sfnt_bytes.specs.Lines.{first_of_lines}
 use Rattle.sfnt_bytes.specs.Refusals.{tag_lines}
 use Rattle.sfnt_bytes.specs.declared.directory.DirError.{DirError}
@@ -52,7 +44,7 @@ pub record AreNumbered (there glyphs : ℕ → Bool) (old new : List Bool) : Typ
 pub record IsPresence (kind : Kind) (file : List ℕ) (tables : OpenParts) : Type 0 where
   pub accepted : fault_of kind file ≡ None
   pub numbered : kind ≢ Full
-  pub are_open : AreOpen (tables_as kind file) tables
+  pub are_open : AreOpen (tables_of kind file) tables
 
 -- .notdef and the glyphs of the wanted codes are marked
 pub record IsSeedSet (file : List ℕ) (wanted : ℕ → Bool) (marks : List Bool) : Type 0 where
@@ -75,19 +67,10 @@ IsFileIn R K X Current = R.file K ≡ X
 IsFileIn R K X Old = (R.file K ≢ X) × (R.old K ≡ X)
 IsFileIn R K X Not = (R.file K ≢ X) × (R.old K ≢ X)
 
--- why there is no cut, where its file is not in memory, and where it is not sent
-abbrev pub of_file_error : FileError → CutError
-of_file_error file_errors.NoMemory = cut_errors.NoMemory
-of_file_error (file_errors.TooLarge size) = cut_errors.TooLarge size
-
-abbrev pub of_send_error : SendError → CutIntoError
-of_send_error (send_errors.TooLarge size) = into_errors.TooLarge size
-of_send_error (send_errors.WriteFault written) = into_errors.WriteFault written
-
 -- the tables that a cut of a kind has anew; where there is none in a slot it has that of the font
 abbrev pub IsMade : Kind × (List ℕ × Asked) → Made → Type 0
 IsMade cut made =
-    (slot : ℕ) → option_or (made_at made slot) ((selected cut).copied slot) ≡ (written_of cut).copied slot
+    (slot : ℕ) → option_or (made_at made slot) ((selected cut).copied slot) ≡ (written_content cut).copied slot
 
 -- where links begin is marked: .notdef, the glyphs of wanted codes, and wanted glyphs
 pub record AreStarts (file : List ℕ) (wanted : Wanted) (marks : List Bool) : Type 0 where
@@ -112,7 +95,7 @@ pub record AreLinksOf (gsub : List ℕ) (listed : List (List ℕ)) : Type 0 wher
 -- where cuts are closed under links, these are listed, and the GSUB that has them can be read
 abbrev pub AreLinksToFollow : Kind → List ℕ → Option (List (List ℕ)) → Type 0
 AreLinksToFollow kind file listed =
-    IfSome listed (λ links. (is_bad_layout_in (tables_as kind file) ≡ false) × AreLinksOf (gsub_as kind file) links)
+    IfSome listed (λ links. (is_bad_layout_in (tables_of kind file) ≡ false) × AreLinksOf (gsub_bytes kind file) links)
 
 -- the refusal, by the directory, of the tables of layout and of variations that cuts of a kind read
 abbrev pub tags_fault : Kind → List ℕ → Option DirError
@@ -134,21 +117,21 @@ fixed_read Variable file = None
 
 -- these tables of a file
 pub record AreFixed (file : List ℕ) (base gdef gpos gsub kern : Option (List ℕ)) : Type 0 where
-  pub base_is : base ≡ tables_as Layout file BASE
-  pub gdef_is : gdef ≡ tables_as Layout file GDEF
-  pub gpos_is : gpos ≡ tables_as Layout file GPOS
-  pub gsub_is : gsub ≡ tables_as Layout file GSUB
-  pub kern_is : kern ≡ tables_as Layout file KERN
+  pub base_is : base ≡ tables_of Layout file BASE
+  pub gdef_is : gdef ≡ tables_of Layout file GDEF
+  pub gpos_is : gpos ≡ tables_of Layout file GPOS
+  pub gsub_is : gsub ≡ tables_of Layout file GSUB
+  pub kern_is : kern ≡ tables_of Layout file KERN
 
 -- what is read of the tables of layout and of variations of a file
 pub record IsRead (kind : Kind) (file : List ℕ) (fixed : Option (List ℕ)) : Type 0 where
   pub inside : tags_fault kind file ≡ None
   pub fixed_is : fixed ≡ fixed_read kind file
 
--- what is held of a font that was opened for cuts of a kind: its `gvar`
-pub record IsOpened (kind : Kind) (file : List ℕ) (variations : Option (List ℕ × ℕ)) : Type 0 where
+-- what is held of a font that was opened for cuts of a kind: its tables that have something of each glyph
+pub record IsOpenedForKind (kind : Kind) (file : List ℕ) (divided : OpenParts) : Type 0 where
   pub accepted : fault_of kind file ≡ None
-  pub variations_are : AreVariationsIn kind file variations
+  pub are_open : AreOpen (tables_of kind file) divided
 
 -- the font that a cut of a kind was opened for, which a full cut needs not
 abbrev pub IsOpenedFor : Kind → List ℕ → Option (Kind × List ℕ) → Type 0

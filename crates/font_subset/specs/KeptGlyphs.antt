@@ -1,8 +1,6 @@
 -- The glyphs that a cut keeps, as marks (OpenType 1.9, glyf, Composite Glyph Description).
 use Rattle.std.specs.Prelude.{◌≡◌, ℕ, nat_eq, Bool, true, List, [], length, Option, None, Some}
 use Rattle.std.specs.List.{filter, list_any, range_with_len}
-use Rattle.std.specs.Option.{option_map}
-use Rattle.sfnt_bytes.specs.declared.tag.TheConstants.{GVAR}
 use Rattle.codes.specs.CharacterMap.{restricted}
 use Rattle.codes.specs.Wanted.{member}
 use Rattle.codes.specs.declared.code_range.CodeRange.{CodeRange}
@@ -10,7 +8,7 @@ use Rattle.font_glyph.specs.Marks.{has}
 use Rattle.font_tables.specs.Fields.{glyph_count_of}
 use Rattle.font_file.specs.Font.{map_of}
 use Rattle.font_theory.specs.Content.{Content, Wanted, content, is_kept, is_root}
-use Rattle.font_theory.specs.Kinds.{font_as, format_of, spelled_by, tables_as}
+use Rattle.font_theory.specs.Kinds.{font_of, format_of, spelled_by}
 use Rattle.font_theory.specs.declared.kinds.Kind.{Kind}
 
 -- what is asked for
@@ -56,22 +54,17 @@ wanted_map file wanted = restricted (codes_wanted wanted) (map_of file)
 -- there
 pub record IsRootSet (kind : Kind) (file : List ℕ) (wanted : Wanted) (marks : List Bool) : Type 0 where
   pub count : length marks ≡ glyph_count_of file
-  pub roots : (g : ℕ) → has marks g ≡ is_root (font_as kind file) wanted g
+  pub roots : (g : ℕ) → has marks g ≡ is_root (font_of kind file) wanted g
 
 -- the glyphs that a cut of a kind keeps are marked
 pub record IsKeptSet (kind : Kind) (file : List ℕ) (wanted : Wanted) (marks : List Bool) : Type 0 where
   pub count : length marks ≡ glyph_count_of file
-  pub kept : (g : ℕ) → has marks g ≡ is_kept (font_as kind file) wanted g
-
--- the `gvar` that cuts of a kind read of a file, and the number of its glyphs, or none
-abbrev pub AreVariationsIn : Kind → List ℕ → Option (List ℕ × ℕ) → Type 0
-AreVariationsIn kind file variations =
-    variations ≡ option_map (λ gvar. (gvar, glyph_count_of file)) (tables_as kind file GVAR)
+  pub kept : (g : ℕ) → has marks g ≡ is_kept (font_of kind file) wanted g
 
 -- what is selected of a file for what is asked, as cuts of a kind read it
 abbrev pub selected : Kind × (List ℕ × Asked) → Content
-selected cut = content (font_as cut.0 cut.1.0) (wanted_in cut.1.1)
+selected cut = content (font_of cut.0 cut.1.0) (wanted_in cut.1.1)
 
 -- the content that the cut of a file for what is asked is written as, of a kind
-unfoldable pub written_of : Kind × (List ℕ × Asked) → Content
-written_of cut = spelled_by cut.0 (content ((format_of cut.0).font cut.1.0) (wanted_in cut.1.1))
+unfoldable pub written_content : Kind × (List ℕ × Asked) → Content
+written_content cut = spelled_by cut.0 (content ((format_of cut.0).font cut.1.0) (wanted_in cut.1.1))

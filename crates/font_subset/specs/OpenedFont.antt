@@ -8,7 +8,7 @@ use Rattle.font_file.specs.declared.font_error.FontError.{FontError}
 use Rattle.font_file.specs.declared.font_error.FontError.TheVariants.{BadLayout, BadVariations, Directory}
 use Rattle.font_theory.specs.Closed.{is_bad_layout_in}
 use Rattle.font_theory.specs.Content.{is_bad_variations_in}
-use Rattle.font_theory.specs.Kinds.{fault_of, settings, tables_as}
+use Rattle.font_theory.specs.Kinds.{fault_of, settings, tables_of}
 use Rattle.font_theory.specs.declared.kinds.Kind.{Kind}
 use Rattle.font_theory.specs.declared.kinds.Kind.TheVariants.{Full, Layout, Lean}
 use Rattle.font_subset.specs.declared.open_error.OpenError.{OpenError}
@@ -25,8 +25,8 @@ abbrev pub closing_lines : Kind → List ℕ → List (Option FontError)
 closing_lines kind file =
     font_fault file
     ∷ option_map Directory (first_of_lines (tag_lines (settings kind).tags file))
-    ∷ when (is_bad_layout_in (tables_as kind file)) BadLayout
-    ∷ when (is_bad_variations_in (tables_as kind file)) BadVariations
+    ∷ when (is_bad_layout_in (tables_of kind file)) BadLayout
+    ∷ when (is_bad_variations_in (tables_of kind file)) BadVariations
     ∷ []
 
 -- the first that applies

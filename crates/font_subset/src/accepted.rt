@@ -7,7 +7,7 @@ ghost use Rattle.font_tables.specs.Fields.{glyph_count_of};
 ghost use Rattle.font_tables.specs.Outlines.{outline_of};
 ghost use Rattle.font_tables.specs.Tables.{head_of};
 ghost use Rattle.font_file.specs.Font.{font_fault};
-ghost use Rattle.font_theory.specs.Content.{font_of};
+ghost use Rattle.font_theory.specs.Content.{plain_font};
 
 use font_file::Font;
 use font_write::made_in;
@@ -40,7 +40,7 @@ pub fn head<'a>(font: &Font<'a>) -> &'a [u8]
 /// Returns the table of a slot, where a cut copies it.
 #[tactic(auto, using(crate::proofs::SourceLemmas::table_small, font_write::proofs::SlotLemmas::made_or_past))]
 pub fn copied<'a>(font: &Font<'a>, slot: usize) -> Option<&'a [u8]>
-    ensures table { option_copied result ≡ (font_of font.now).copied slot }
+    ensures table { option_copied result ≡ (plain_font font.now).copied slot }
     ensures small { MatchOption result Unit (λ b. length b.now ≤ MAX_FILE) }
 {
     if made_in(slot).is_some() || SLOTS <= slot {

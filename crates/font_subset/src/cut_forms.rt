@@ -11,7 +11,7 @@ ghost use Rattle.font_theory.specs.Content.{Content, content};
 ghost use Rattle.font_theory.specs.Kinds.{format_of, spelled_by};
 ghost use Rattle.font_theory.specs.declared.kinds.Kind.TheVariants.{Full};
 ghost use Rattle.font_subset.specs.CutOfFont.{IsCutForSome, IsFormIn, IsFormOf, cut_form_of};
-ghost use Rattle.font_subset.specs.CutOfKind.{IsCutIn, form_as, own_of};
+ghost use Rattle.font_subset.specs.CutOfKind.{IsCutIn, kind_form, own_of};
 ghost use Rattle.font_subset.specs.KeptGlyphs.{all_asked, asked, wanted_in};
 
 use crate::accepted::recall_accepted;
@@ -36,7 +36,7 @@ pub fn form_of_kind<A: Memory + Copy>(
     alloc: A,
     font: &FontOfKind<'_, '_, A>,
 ) -> Result<CutForm, NoMemory>
-    ensures exact { IfOk result (λ form. form ≡ form_as font.now.0 font.now.1) }
+    ensures exact { IfOk result (λ form. form ≡ kind_form font.now.0 font.now.1) }
     ensures form { IfOk result (IsFormIn font.now.0 font.now.1) }
     ensures memory { OnErr result (IsRefused A.refuses) }
 {
@@ -56,7 +56,7 @@ pub fn listed_form<'f, 'a, A: Memory + Copy>(
     font: &'f FontOfKind<'f, 'a, A>,
 ) -> Result<(Selection<'f, 'a, A>, CutForm), NoMemory>
     ensures selection { IfOk result (λ both. both.0 ≡ (font.entry.now.0, (font.entry.now.1, all_asked))) }
-    ensures form { IfOk result (λ both. both.1 ≡ form_as font.entry.now.0 font.entry.now.1) }
+    ensures form { IfOk result (λ both. both.1 ≡ kind_form font.entry.now.0 font.entry.now.1) }
     ensures memory { OnErr result (IsRefused A.refuses) }
 {
     let selection = Selection::with_runs(alloc, font)?;

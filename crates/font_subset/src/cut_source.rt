@@ -60,11 +60,11 @@ impl<'f, 'a, A: Memory + Copy> CutOf<'f, 'a, A> {
 
 impl<'f, 'a, A: Allocator> Source for CutOf<'f, 'a, A> {
     ghost use Rattle.font_theory.specs.Content.{content};
-    ghost use Rattle.font_theory.specs.Kinds.{font_as};
+    ghost use Rattle.font_theory.specs.Kinds.{font_of};
     ghost use Rattle.font_theory.specs.declared.kinds.Kind.TheVariants.{Full};
     ghost use Rattle.font_subset.specs.KeptGlyphs.{codes_asked, wanted_in};
 
-    ghost content_of = { λ c. content (font_as Full c.0) (wanted_in (codes_asked c.1)) };
+    ghost content_of = { λ c. content (font_of Full c.0) (wanted_in (codes_asked c.1)) };
 
     fn recall_laws(&self) {
         self.selection.recall_laws();

@@ -1,14 +1,13 @@
 //! A font as cuts of a kind read it, this project's own.
-ghost use Rattle.std.specs.Prelude.{◌≡◌, ◌<◌, ◌≤◌, ℕ, Bool, false, true, length, Err, None, Some, IfOk, MatchOption, MatchResult, option_copied};
+ghost use Rattle.std.specs.Prelude.{◌≡◌, ◌<◌, ◌≤◌, ℕ, Bool, false, true, length, Err, None, Some, IfOk, MatchOption, MatchResult};
 ghost use Rattle.sfnt_bytes.specs.Memory.{IsRefused};
 ghost use Rattle.sfnt_bytes.specs.declared.directory.TheConstants.{MAX_FILE};
 ghost use Rattle.sfnt_bytes.specs.declared.tag.TheConstants.{SLOTS as KEPT_SLOTS};
-ghost use Rattle.font_theory.specs.Kinds.{fault_of, tables_as};
+ghost use Rattle.font_theory.specs.Kinds.{fault_of, tables_of};
 ghost use Rattle.font_theory.specs.declared.kinds.Kind.TheVariants.{Full, Lean};
 ghost use Rattle.font_file.specs.Font.{font_fault};
-ghost use Rattle.divided_tables.specs.Open.{AreOpen};
+ghost use Rattle.divided_tables.specs.DividedTables.{AreOpen};
 ghost use Rattle.font_subset.specs.Inside.{slots_of};
-ghost use Rattle.font_subset.specs.KeptGlyphs.{AreVariationsIn};
 ghost use Rattle.font_subset.specs.OpenedFont.{IsOpenRefusal};
 ghost use Rattle.font_subset.specs.declared.open_error.OpenError.TheVariants.{NoMemory as OpenNoMemory};
 
@@ -18,8 +17,7 @@ use crate::open_error::OpenError;
 use divided_tables::OpenTables;
 use font_file::{Font, FontError};
 use font_theory::Kind;
-use font_variations::Variations;
-use sfnt_bytes::{HHEA, HMTX, Memory, SLOTS, VHEA, VMTX};
+use sfnt_bytes::{Memory, SLOTS};
 use std::alloc::{Allocator, Global};
 use std::marker::Model;
 
@@ -27,28 +25,28 @@ use std::marker::Model;
 /// and may serve many cuts.
 pub struct FontOfKind<'f, 'a, A: Allocator = Global> {
     tables: FurtherTables<'f, 'a, A>,
-    // `gvar`, where the kind reads it and the font has one.
-    variations: Option<Variations<'a>>,
+    // Those that have something of each glyph, as the kind reads them.
+    divided: OpenTables<'a>,
 }
 
 // Its value is the kind, and the file of the font.
 impl<'f, 'a, A: Allocator> Model for FontOfKind<'f, 'a, A> {
     ghost use Rattle.std.specs.Prelude.{ℕ, List};
     ghost use Rattle.font_theory.specs.declared.kinds.Kind.{Kind};
-    ghost use Rattle.font_subset.specs.Inside.{IsOpened};
+    ghost use Rattle.font_subset.specs.Inside.{IsOpenedForKind};
 
     ghost Value = { Kind × List ℕ };
 
     ghost view = { λ f. f.tables };
 
-    ghost invariant = { λ f. IsOpened f.tables.0 f.tables.1 f.variations };
+    ghost invariant = { λ f. IsOpenedForKind f.tables.0 f.tables.1 f.divided };
 }
 
 impl<'f, 'a, A: Allocator> Drop for FontOfKind<'f, 'a, A> {
     fn drop(self) {
         let FontOfKind {
             tables: _tables,
-            variations: _,
+            divided: _divided,
         } = self;
     }
 }
@@ -61,9 +59,11 @@ impl<'f, 'a, A: Allocator> FontOfKind<'f, 'a, A> {
         ensures sound { fault_of kind font.entry.now ≡ None }
     {
         recall_accepted(font);
-        FontOfKind {
-            tables: FurtherTables::unread(kind, font),
-            variations: None,
+        let tables = FurtherTables::unread(kind, font);
+        match OpenTables::open(&tables) {
+            Some(divided) => FontOfKind { tables, divided },
+            // What is refused is read by other cuts alone.
+            None => unreachable!(),
         }
     }
 
@@ -108,44 +108,27 @@ impl<'f, 'a, A: Allocator> FontOfKind<'f, 'a, A> {
         self.tables.font()
     }
 
-    /// Returns `gvar`, where a cut of the kind keeps variations and the font has one.
-    pub(crate) fn variations(&self) -> Option<&Variations<'a>>
-        ensures { AreVariationsIn self.now.0 self.now.1 (option_copied result) }
-    {
-        match &self.variations {
-            Some(variations) => Some(variations),
-            None => None,
-        }
-    }
-
     /// Returns the table of a slot after those of the tables that every cut keeps, where a cut of the kind copies it.
     pub(crate) fn further(&self, slot: usize) -> Option<&[u8]>
         requires { KEPT_SLOTS ≤ slot }
-        ensures table { MatchOption result (tables_as self.now.0 self.now.1 slot ≡ None)
-            (λ b. tables_as self.now.0 self.now.1 slot ≡ Some b.now) }
+        ensures table { MatchOption result (tables_of self.now.0 self.now.1 slot ≡ None)
+            (λ b. tables_of self.now.0 self.now.1 slot ≡ Some b.now) }
         ensures small { MatchOption result Unit (λ b. length b.now ≤ MAX_FILE) }
     {
         self.tables.table(slot)
     }
 
-    /// Opens the tables that have something of each glyph, as cuts of the kind read them.
-    pub(crate) fn open_tables(&self) -> OpenTables<'_, 'a>
-        ensures { AreOpen (tables_as self.now.0 self.now.1) result }
+    /// Returns the tables that have something of each glyph, as cuts of the kind read them.
+    pub(crate) fn divided(&self) -> &OpenTables<'a>
+        ensures { AreOpen (tables_of self.now.0 self.now.1) result.now }
     {
-        OpenTables::open(
-            self.font().tables().glyph_count(),
-            self.copied(HHEA),
-            self.copied(HMTX),
-            self.copied(VHEA),
-            self.copied(VMTX),
-            self.variations(),
-        )
+        &self.divided
     }
 
     /// Returns the table of a slot, where a cut of the kind copies it.
     pub fn copied(&self, slot: usize) -> Option<&[u8]>
-        ensures table { MatchOption result (tables_as self.now.0 self.now.1 slot ≡ None)
-            (λ b. tables_as self.now.0 self.now.1 slot ≡ Some b.now) }
+        ensures table { MatchOption result (tables_of self.now.0 self.now.1 slot ≡ None)
+            (λ b. tables_of self.now.0 self.now.1 slot ≡ Some b.now) }
         ensures small { MatchOption result Unit (λ b. length b.now ≤ MAX_FILE) }
     {
         if slot < SLOTS {
@@ -170,9 +153,9 @@ impl<'f, 'a, A: Memory + Copy> FontOfKind<'f, 'a, A> {
     {
         recall_accepted(font);
         let tables = FurtherTables::read(alloc, kind, font)?;
-        match tables.variations() {
-            Ok(variations) => Ok(FontOfKind { tables, variations }),
-            Err(_) => Err(OpenError::Refused(FontError::BadVariations)),
+        match OpenTables::open(&tables) {
+            Some(divided) => Ok(FontOfKind { tables, divided }),
+            None => Err(OpenError::Refused(FontError::BadVariations)),
         }
     }
 

@@ -6,10 +6,10 @@ ghost use Rattle.sfnt_bytes.specs.Memory.{IsRefused};
 ghost use Rattle.font_glyph.specs.Marks.{has};
 ghost use Rattle.font_tables.specs.Fields.{glyph_count_of};
 ghost use Rattle.font_theory.specs.Closed.{is_bad_layout_in};
-ghost use Rattle.font_theory.specs.Kinds.{fault_of, gsub_as, tables_as};
-ghost use Rattle.font_theory.specs.Links.{is_bad_layout};
+ghost use Rattle.font_theory.specs.Kinds.{fault_of, gsub_bytes, tables_of};
+ghost use Rattle.font_theory.specs.Links.{is_unreadable_gsub};
 ghost use Rattle.font_theory.specs.declared.kinds.Kind.TheVariants.{Full as FullKind, Variable as VariableKind};
-ghost use Rattle.font_subset.specs.CutOfKind.{closed_of, cut_as, cut_in, keeps_links};
+ghost use Rattle.font_subset.specs.CutOfKind.{closed_of, opened_font_cut, cut_of, keeps_links};
 ghost use Rattle.font_subset.specs.KeptGlyphs.{asked, glyphs_wanted, numbers_in, wanted_in};
 ghost use Rattle.font_theory.specs.Content.{Wanted as WantedSets};
 ghost use Rattle.font_subset.specs.Inside.{AreClosedMarks, AreLinksOf, AreNumbered, AreStarts, is_beyond, tags_fault};
@@ -32,10 +32,10 @@ use std::alloc::{Allocator, Global};
 use std::marker::Model;
 
 // Lists the links of a `GSUB`, or returns none where it cannot be read.
-#[tactic(auto, unfolding(font_theory::specs::Links::is_bad_layout))]
+#[tactic(auto, unfolding(font_theory::specs::Links::is_unreadable_gsub))]
 fn read_links<A: Memory + Copy>(alloc: A, gsub: &[u8]) -> Result<Option<Links<A>>, NoMemory>
-    ensures links { IfOk result (λ o. MatchOption o (is_bad_layout gsub.now ≡ true)
-        (λ listed. (is_bad_layout gsub.now ≡ false) × AreLinksOf gsub.now listed)) }
+    ensures links { IfOk result (λ o. MatchOption o (is_unreadable_gsub gsub.now ≡ true)
+        (λ listed. (is_unreadable_gsub gsub.now ≡ false) × AreLinksOf gsub.now listed)) }
     ensures there { IfErr result (λ _. length gsub.now ≢ 0) }
     ensures memory { OnErr result (IsRefused A.refuses) }
 {
@@ -43,17 +43,17 @@ fn read_links<A: Memory + Copy>(alloc: A, gsub: &[u8]) -> Result<Option<Links<A>
         return Ok(Some(Links::none(alloc)));
     }
     match Layout::open(gsub) {
-        Ok(layout) => {
+        Some(layout) => {
             let listed = Links::of(alloc, &layout)?;
             Ok(Some(listed))
         }
-        Err(_) => Ok(None),
+        None => Ok(None),
     }
 }
 
 // Returns the bytes of `GSUB` as cuts of the kind read it, none where there is no such table.
 fn gsub_of<'f, A: Allocator>(font: &'f FontOfKind<'_, '_, A>) -> &'f [u8]
-    ensures { result.now ≡ gsub_as font.entry.now.0 font.entry.now.1 }
+    ensures { result.now ≡ gsub_bytes font.entry.now.0 font.entry.now.1 }
 {
     match font.copied(GSUB) {
         Some(gsub) => gsub,
@@ -106,7 +106,7 @@ fn mark_closed<A: Memory + Copy>(
     starts: &Marks<A>,
     count: u16,
 ) -> Result<Marks<A>, NoMemory>
-    requires links { AreLinksOf (gsub_as font.now.0 font.now.1) links.now }
+    requires links { AreLinksOf (gsub_bytes font.now.0 font.now.1) links.now }
     requires count { count ≡ glyph_count_of font.now.1 }
     requires starts { length starts.now ≡ count }
     ensures count { IfOk result (λ marks. length marks ≡ count) }
@@ -126,7 +126,7 @@ fn closed_glyphs<A: Memory + Copy>(
     codes: Option<&Wanted<A>>,
     glyphs: &[u16],
 ) -> Result<Vec<u16, A>, NoMemory>
-    requires { AreLinksOf (gsub_as font.now.0 font.now.1) links.now }
+    requires { AreLinksOf (gsub_bytes font.now.0 font.now.1) links.now }
     ensures glyphs { IfOk result (λ listed. listed.items ≡ numbers_in (closed_of font.now.0 font.now.1
         (wanted_in (asked (option_copied codes.entry) (Some glyphs.now)))).glyphs (glyph_count_of font.now.1)) }
     ensures memory { OnErr result (IsRefused A.refuses) }
@@ -148,7 +148,7 @@ fn linked_numbers<A: Memory + Copy>(
     seeds: &Seeds<'_, '_, A>,
     glyphs: &[u16],
 ) -> Result<Vec<u16, A>, NoMemory>
-    requires links { AreLinksOf (gsub_as font.now.0 font.now.1) links.now }
+    requires links { AreLinksOf (gsub_bytes font.now.0 font.now.1) links.now }
     requires seeds { seeds.now.0 ≡ font.now.1 }
     ensures numbers { IfOk result (λ listed. listed.items ≡ glyphs.now ++ numbers_in (is_beyond font.now.0 font.now.1
         (wanted_in (asked seeds.now.1 (Some glyphs.now)))) (glyph_count_of font.now.1)) }
@@ -201,10 +201,10 @@ pub fn keeps_layout(kind: Kind) -> bool
 
 // Tells whether the `GSUB` of a font cannot be read, whose tables of layout and of variations stand once at most and lie
 // within the file.
-#[tactic(auto, unfolding(font_theory::specs::Links::is_bad_layout))]
+#[tactic(auto, unfolding(font_theory::specs::Links::is_unreadable_gsub))]
 fn has_bad_gsub(font: &Font<'_>) -> bool
     requires { tags_fault VariableKind font.now ≡ None }
-    ensures { result ≡ is_bad_layout_in (tables_as VariableKind font.now) }
+    ensures { result ≡ is_bad_layout_in (tables_of VariableKind font.now) }
 {
     match table_of(Kind::Variable, font, GSUB) {
         Some(gsub) => is_bad_gsub(gsub),
@@ -213,11 +213,11 @@ fn has_bad_gsub(font: &Font<'_>) -> bool
 }
 
 // Tells whether a `GSUB` cannot be read.
-#[tactic(auto, unfolding(font_theory::specs::Links::is_bad_layout))]
+#[tactic(auto, unfolding(font_theory::specs::Links::is_unreadable_gsub))]
 fn is_bad_gsub(gsub: &[u8]) -> bool
-    ensures { result ≡ is_bad_layout gsub.now }
+    ensures { result ≡ is_unreadable_gsub gsub.now }
 {
-    !gsub.is_empty() && Layout::open(gsub).is_err()
+    !gsub.is_empty() && Layout::open(gsub).is_none()
 }
 
 // Returns why a font is refused for cuts that are closed under links, where it is refused for cuts of its kind. A `GSUB`
@@ -398,9 +398,10 @@ impl<'f, 'a, A: Memory + Copy> FontToCut<'f, 'a, A> {
         codes: Option<&Wanted<A>>,
         glyphs: Option<&[u16]>,
     ) -> Result<Option<Vec<u16, A>>, NoMemory>
-        ensures cut { IfOk result (λ listed. cut_in self.now.0 self.now.1.0
+        ensures cut { IfOk result (λ listed. cut_of self.now.0 self.now.1.0
             (wanted_in (asked (option_copied codes.entry) (option_map (λ v. v.items) listed)))
-            ≡ cut_as self.now (wanted_in (asked (option_copied codes.entry) (option_copied glyphs.entry)))) }
+            ≡ opened_font_cut self.now
+            (wanted_in (asked (option_copied codes.entry) (option_copied glyphs.entry)))) }
         ensures memory { OnErr result (IsRefused A.refuses) }
     {
         let opened = self.font();
@@ -425,9 +426,9 @@ impl<'f, 'a, A: Memory + Copy> FontToCut<'f, 'a, A> {
         glyphs: Option<&[u16]>,
     ) -> Result<Option<Vec<u16, A>>, NoMemory>
         requires { seeds.now.0 ≡ self.now.1.0 }
-        ensures cut { IfOk result (λ listed. cut_in self.now.0 self.now.1.0
+        ensures cut { IfOk result (λ listed. cut_of self.now.0 self.now.1.0
             (wanted_in (asked seeds.now.1 (option_map (λ v. v.items) listed)))
-            ≡ cut_as self.now (wanted_in (asked seeds.now.1 (option_copied glyphs.entry)))) }
+            ≡ opened_font_cut self.now (wanted_in (asked seeds.now.1 (option_copied glyphs.entry)))) }
         ensures memory { OnErr result (IsRefused A.refuses) }
     {
         self.recall_opened();

@@ -1,5 +1,5 @@
 //! The tables of layout and of variations of a font, as cuts of a kind read them: not at all, without what varies, or as
-//! they are. OpenType 1.9, BASE; GDEF; GPOS; GSUB; kern; gvar; fvar; avar; cvar; HVAR; MVAR; STAT; VVAR.
+//! they are. OpenType 1.9, BASE; GDEF; GPOS; GSUB; kern; OpenType Font Variations Overview.
 ghost use Rattle.std.specs.Prelude.{◌≡◌, ◌≤◌, ◌<◌, false, true, Err, None, IfOk, MatchOption, MatchResult, OnErr, length, option_copied};
 ghost use Rattle.std.specs.Option.{option_map};
 ghost use Rattle.sfnt_bytes.specs.Directory.{is_layout_slot, slot_tag, table_of as table_of_tag};
@@ -7,24 +7,21 @@ ghost use Rattle.sfnt_bytes.specs.Memory.{IsRefused};
 ghost use Rattle.sfnt_bytes.specs.declared.directory.TheConstants.{MAX_FILE};
 ghost use Rattle.sfnt_bytes.specs.declared.tag.TheConstants.{FIRST_VARIATION, SLOTS as KEPT_SLOTS};
 ghost use Rattle.font_file.specs.Font.{font_fault};
-ghost use Rattle.font_theory.specs.Content.{is_bad_variations_in};
-ghost use Rattle.font_theory.specs.Kinds.{tables_as};
+ghost use Rattle.font_theory.specs.Kinds.{tables_of};
 ghost use Rattle.font_theory.specs.Links.{fixed};
 ghost use Rattle.font_theory.specs.declared.kinds.Kind.TheVariants.{Layout as LayoutKind};
-ghost use Rattle.font_subset.specs.KeptGlyphs.{AreVariationsIn};
 ghost use Rattle.font_subset.specs.Inside.{fixed_read, slots_of, tags_fault};
 ghost use Rattle.font_subset.specs.OpenedFont.{IsOpenRefusal};
 ghost use Rattle.font_subset.specs.declared.open_error.OpenError.TheVariants.{NoMemory as OpenNoMemory};
 
-use crate::accepted::recall_accepted;
+use crate::accepted::{copied, recall_accepted};
 use crate::open_error::OpenError;
+use divided_tables::TablesBySlot;
 use font_file::{Font, FontError};
 use font_layout::fixed_table;
 use font_theory::Kind;
-use font_variations::{BadVariations, Variations};
 use sfnt_bytes::{
-    ALL_SLOTS, BASE, DirError, FIRST_VARIATION, FVAR, GDEF, GPOS, GSUB, GVAR, KERN, Memory,
-    NoMemory, SLOTS,
+    ALL_SLOTS, BASE, DirError, FIRST_VARIATION, GDEF, GPOS, GSUB, KERN, Memory, NoMemory, SLOTS,
 };
 use std::alloc::{Allocator, Global};
 use std::marker::Model;
@@ -209,8 +206,8 @@ impl<'f, 'a, A: Memory + Copy> FixedTables<'f, 'a, A> {
 impl<'f, 'a, A: Allocator> FixedTables<'f, 'a, A> {
     fn table(&self, slot: usize) -> Option<&[u8]>
         requires { is_layout_slot slot ≡ true }
-        ensures table { MatchOption result (tables_as LayoutKind self.now slot ≡ None)
-            (λ b. tables_as LayoutKind self.now slot ≡ Some b.now) }
+        ensures table { MatchOption result (tables_of LayoutKind self.now slot ≡ None)
+            (λ b. tables_of LayoutKind self.now slot ≡ Some b.now) }
         ensures small { MatchOption result Unit (λ b. length b.now ≤ MAX_FILE) }
     {
         if slot == BASE {
@@ -321,8 +318,8 @@ impl<'f, 'a, A: Allocator> FurtherTables<'f, 'a, A> {
     /// Returns the table of a slot, where cuts of the kind read it.
     pub(crate) fn table(&self, slot: usize) -> Option<&[u8]>
         requires { KEPT_SLOTS ≤ slot }
-        ensures table { MatchOption result (tables_as self.now.0 self.now.1 slot ≡ None)
-            (λ b. tables_as self.now.0 self.now.1 slot ≡ Some b.now) }
+        ensures table { MatchOption result (tables_of self.now.0 self.now.1 slot ≡ None)
+            (λ b. tables_of self.now.0 self.now.1 slot ≡ Some b.now) }
         ensures small { MatchOption result Unit (λ b. length b.now ≤ MAX_FILE) }
     {
         if slots_of(self.kind) <= slot {
@@ -333,28 +330,24 @@ impl<'f, 'a, A: Allocator> FurtherTables<'f, 'a, A> {
             None => table_of(self.kind, self.font, slot),
         }
     }
+}
 
-    /// Opens `gvar`, where cuts of the kind read it and the font has one.
-    ///
-    /// # Errors
-    ///
-    /// `BadVariations` where it cannot be read.
-    pub(crate) fn variations(&self) -> Result<Option<Variations<'a>>, BadVariations>
-        ensures { MatchResult result
-            (λ o. (is_bad_variations_in (tables_as self.now.0 self.now.1) ≡ false)
-            × AreVariationsIn self.now.0 self.now.1 o)
-            (λ _. is_bad_variations_in (tables_as self.now.0 self.now.1) ≡ true) }
-    {
-        if slots_of(self.kind) <= GVAR {
-            return Ok(None);
+impl<'f, 'a, A: Allocator> TablesBySlot<'a> for FurtherTables<'f, 'a, A> {
+    ghost use Rattle.font_theory.specs.Kinds.{tables_of};
+
+    ghost tables_in = { λ t. tables_of t.0 t.1 };
+
+    fn glyph_count(&self) -> u16 {
+        self.font.tables().glyph_count()
+    }
+
+    fn table(&self, slot: usize) -> Option<&'a [u8]> {
+        if slot < SLOTS {
+            return copied(self.font, slot);
         }
-        let Some(gvar) = table_of(self.kind, self.font, GVAR) else {
-            return Ok(None);
-        };
-        let fvar = table_of(self.kind, self.font, FVAR);
-        match Variations::open(gvar, fvar, self.font.tables().glyph_count()) {
-            Ok(variations) => Ok(Some(variations)),
-            Err(error) => Err(error),
+        if slots_of(self.kind) <= slot {
+            return None;
         }
+        table_of(self.kind, self.font, slot)
     }
 }

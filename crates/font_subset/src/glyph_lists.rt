@@ -4,7 +4,7 @@ ghost use Rattle.sfnt_bytes.specs.Memory.{IsRefused};
 ghost use Rattle.font_glyph.specs.Marks.{has};
 ghost use Rattle.font_tables.specs.Fields.{glyph_count_of};
 ghost use Rattle.font_theory.specs.Content.{everything, is_kept};
-ghost use Rattle.font_theory.specs.Kinds.{font_as};
+ghost use Rattle.font_theory.specs.Kinds.{font_of};
 ghost use Rattle.font_subset.specs.KeptGlyphs.{numbers_in};
 
 use crate::font_of_kind::FontOfKind;
@@ -65,7 +65,7 @@ pub fn kept_glyphs<A: Memory + Copy>(
     font: &FontOfKind<'_, '_, A>,
 ) -> Result<Vec<u16, A>, NoMemory>
     ensures glyphs { IfOk result (λ glyphs. glyphs.items
-        ≡ numbers_in (is_kept (font_as font.now.0 font.now.1) everything) (glyph_count_of font.now.1)) }
+        ≡ numbers_in (is_kept (font_of font.now.0 font.now.1) everything) (glyph_count_of font.now.1)) }
     ensures memory { OnErr result (IsRefused A.refuses) }
 {
     let count = font.font().tables().glyph_count();

@@ -6,7 +6,7 @@ ghost use Rattle.sfnt_bytes.specs.declared.directory.TheConstants.{MAX_FILE};
 ghost use Rattle.font_file.specs.Font.{font_fault};
 ghost use Rattle.font_theory.specs.declared.kinds.Kind.TheVariants.{Full};
 ghost use Rattle.font_subset.specs.KeptGlyphs.{all_asked, asked};
-ghost use Rattle.font_subset.specs.CutOfKind.{form_as};
+ghost use Rattle.font_subset.specs.CutOfKind.{kind_form};
 
 use crate::font_of_kind::FontOfKind;
 use crate::forms::{CutForm, form_of_file};
@@ -77,7 +77,10 @@ impl<'f, 'a, A: Memory + Copy> CutOfKind<'f, 'a, A> {
         ensures memory { OnErr result (IsRefused A.refuses) }
     {
         selection.recall_accepted();
-        let made = MadeTables::kept(alloc, &selection, selection.variations())?;
+        let Some(divided) = selection.divided() else {
+            unreachable!();
+        };
+        let made = MadeTables::kept(alloc, &selection, divided)?;
         Ok(CutOfKind { selection, made })
     }
 
@@ -157,16 +160,16 @@ impl<'f, 'a, A: Allocator> CutOfKind<'f, 'a, A> {
     /// Returns the form in which the font's file is the file of this content, which is that for all codes and all glyphs.
     pub fn form(&self) -> CutForm
         requires { self.now.1.1 ≡ all_asked }
-        ensures { result ≡ form_as self.now.0 self.now.1.0 }
+        ensures { result ≡ kind_form self.now.0 self.now.1.0 }
     {
         form_of_file(self.selection.kind(), self, self.file())
     }
 }
 
 impl<'f, 'a, A: Allocator> Source for CutOfKind<'f, 'a, A> {
-    ghost use Rattle.font_subset.specs.KeptGlyphs.{written_of};
+    ghost use Rattle.font_subset.specs.KeptGlyphs.{written_content};
 
-    ghost content_of = { written_of };
+    ghost content_of = { written_content };
 
     fn recall_laws(&self) {
         self.selection.recall_accepted();

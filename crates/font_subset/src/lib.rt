@@ -17,7 +17,7 @@ mod presence;
 mod selection;
 
 pub use crate::accepted::{copied, head, recall_accepted};
-pub use crate::cut_font::{CutError, CutIntoError, cut, cut_into, cut_of_kind, cut_of_kind_into};
+pub use crate::cut_font::{cut, cut_into, cut_of_kind, cut_of_kind_into};
 pub use crate::cut_forms::{
     belongs, cut_form, form_of_kind, is_cut, is_cut_of, is_of_kind, listed_form,
 };
@@ -30,3 +30,4 @@ pub use crate::kind_source::CutOfKind;
 pub use crate::open_error::OpenError;
 pub use crate::selection::Selection;
 pub use font_theory::Kind;
+pub use font_write::{CutError, CutIntoError};

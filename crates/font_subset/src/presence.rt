@@ -6,7 +6,7 @@ ghost use Rattle.sfnt_bytes.specs.Memory.{IsRefused};
 ghost use Rattle.sfnt_bytes.specs.declared.tag.TheConstants.{LOCA as LOCA_SLOT};
 ghost use Rattle.font_tables.specs.Outlines.{outline_of};
 ghost use Rattle.font_tables.specs.Fields.{glyph_count_of};
-ghost use Rattle.font_theory.specs.Kinds.{font_as};
+ghost use Rattle.font_theory.specs.Kinds.{font_of};
 ghost use Rattle.font_theory.specs.declared.kinds.Kind.TheVariants.{Full};
 ghost use Rattle.font_subset.specs.Inside.{AreNumbered, is_between};
 ghost use Rattle.font_subset.specs.KeptGlyphs.{glyphs_wanted};
@@ -48,7 +48,7 @@ fn has_no_outlines(font: &Font<'_>, from: u16, to: u16) -> bool
 /// What tells of a font which of its glyphs are there.
 pub(crate) struct Presence<'f, 'a, A: Allocator> {
     font: &'f FontOfKind<'f, 'a, A>,
-    tables: OpenTables<'f, 'a>,
+    tables: &'f OpenTables<'a>,
 }
 
 // Its value is the kind, and the file of the font.
@@ -61,15 +61,12 @@ impl<'f, 'a, A: Allocator> Model for Presence<'f, 'a, A> {
 
     ghost view = { λ p. p.font.now };
 
-    ghost invariant = { λ p. IsPresence p.font.now.0 p.font.now.1 p.tables };
+    ghost invariant = { λ p. IsPresence p.font.now.0 p.font.now.1 p.tables.now };
 }
 
 impl<'f, 'a, A: Allocator> Drop for Presence<'f, 'a, A> {
     fn drop(self) {
-        let Presence {
-            font: _,
-            tables: _tables,
-        } = self;
+        let Presence { font: _, tables: _ } = self;
     }
 }
 
@@ -79,7 +76,7 @@ impl<'f, 'a, A: Allocator> Presence<'f, 'a, A> {
         ensures { result ≡ font.entry.now }
     {
         font.recall_accepted();
-        let tables = font.open_tables();
+        let tables = font.divided();
         Presence { font, tables }
     }
 
@@ -94,7 +91,8 @@ impl<'f, 'a, A: Allocator> Presence<'f, 'a, A> {
     fn has_none(&self, from: u16, to: u16) -> bool
         requires order { from < to }
         requires within { to ≤ glyph_count_of self.now.1 }
-        ensures { IsTrue result → (g : ℕ) → from ≤ g → g < to → (font_as self.now.0 self.now.1).there g ≡ false }
+        ensures { IsTrue result → (g : ℕ) → from ≤ g → g < to →
+            (font_of self.now.0 self.now.1).there g ≡ false }
     {
         if !has_no_outlines(self.font.font(), from, to) {
             return false;
@@ -104,7 +102,7 @@ impl<'f, 'a, A: Allocator> Presence<'f, 'a, A> {
 
     fn has(&self, g: u16) -> bool
         requires { g < glyph_count_of self.now.1 }
-        ensures { result ≡ (font_as self.now.0 self.now.1).there g }
+        ensures { result ≡ (font_of self.now.0 self.now.1).there g }
     {
         if !outline(self.font.font(), g).is_empty() {
             return true;
@@ -116,7 +114,7 @@ impl<'f, 'a, A: Allocator> Presence<'f, 'a, A> {
 // Marks a glyph, where there is such a glyph and it is there. Of one that is marked already nothing is read.
 fn mark_if_there<A: Allocator>(marks: &mut Marks<A>, presence: &Presence<'_, '_, A>, g: u16)
     requires { length marks.old ≡ glyph_count_of presence.now.1 }
-    ensures { AreNumbered (font_as presence.now.0 presence.now.1).there (nat_eq g) marks.old marks.new }
+    ensures { AreNumbered (font_of presence.now.0 presence.now.1).there (nat_eq g) marks.old marks.new }
 {
     if g < presence.glyph_count() && !marks.has(g) && presence.has(g) {
         marks.set(g);
@@ -126,7 +124,8 @@ fn mark_if_there<A: Allocator>(marks: &mut Marks<A>, presence: &Presence<'_, '_,
 // Marks those of some glyphs that are there.
 fn mark_listed<A: Allocator>(marks: &mut Marks<A>, presence: &Presence<'_, '_, A>, numbers: &[u16])
     requires { length marks.old ≡ glyph_count_of presence.now.1 }
-    ensures { AreNumbered (font_as presence.now.0 presence.now.1).there (glyphs_wanted (Some numbers.now)) marks.old
+    ensures { AreNumbered (font_of presence.now.0 presence.now.1).there
+        (glyphs_wanted (Some numbers.now)) marks.old
         marks.new }
 {
     for g in numbers {
@@ -144,7 +143,8 @@ fn mark_between<A: Allocator>(
     requires count { length marks.old ≡ glyph_count_of presence.now.1 }
     requires order { from < to }
     requires within { to ≤ glyph_count_of presence.now.1 }
-    ensures { AreNumbered (font_as presence.now.0 presence.now.1).there (is_between from to) marks.old marks.new }
+    ensures { AreNumbered (font_of presence.now.0 presence.now.1).there
+        (is_between from to) marks.old marks.new }
 {
     if presence.has_none(from, to) {
         return;
@@ -157,7 +157,8 @@ fn mark_between<A: Allocator>(
 // Marks all glyphs that are there.
 fn mark_all<A: Allocator>(marks: &mut Marks<A>, presence: &Presence<'_, '_, A>)
     requires { length marks.old ≡ glyph_count_of presence.now.1 }
-    ensures { AreNumbered (font_as presence.now.0 presence.now.1).there (glyphs_wanted None) marks.old marks.new }
+    ensures { AreNumbered (font_of presence.now.0 presence.now.1).there
+        (glyphs_wanted None) marks.old marks.new }
 {
     let count = presence.glyph_count();
     let mut from = 0;
@@ -175,7 +176,8 @@ pub(crate) fn with_numbers<A: Allocator>(
     numbers: Option<&[u16]>,
 ) -> Marks<A>
     requires { length marks ≡ glyph_count_of font.now.1 }
-    ensures { AreNumbered (font_as font.now.0 font.now.1).there (glyphs_wanted (option_copied numbers.entry)) marks
+    ensures { AreNumbered (font_of font.now.0 font.now.1).there
+        (glyphs_wanted (option_copied numbers.entry)) marks
         result }
 {
     match font.kind() {
@@ -201,7 +203,8 @@ fn list_if_there<A: Memory>(
 ) -> Result<(), NoMemory>
     requires { g < glyph_count_of presence.now.1 }
     ensures listed { OnOk result ((h : ℕ) → glyphs_wanted (Some glyphs.new.items) h
-        ≡ (glyphs_wanted (Some glyphs.old.items) h || (nat_eq g h && (font_as presence.now.0 presence.now.1).there h))) }
+        ≡ (glyphs_wanted (Some glyphs.old.items) h
+        || (nat_eq g h && (font_of presence.now.0 presence.now.1).there h))) }
     ensures memory { OnErr result (IsRefused A.refuses) }
 {
     if presence.has(g) {
@@ -213,7 +216,7 @@ fn list_if_there<A: Memory>(
 // Lists the glyphs that are there, where some may be.
 fn list_there<A: Memory>(alloc: A, presence: &Presence<'_, '_, A>) -> Result<Vec<u16, A>, NoMemory>
     ensures glyphs { IfOk result (λ glyphs. (g : ℕ) →
-        glyphs_wanted (Some glyphs.items) g ≡ (font_as presence.now.0 presence.now.1).there g) }
+        glyphs_wanted (Some glyphs.items) g ≡ (font_of presence.now.0 presence.now.1).there g) }
     ensures memory { OnErr result (IsRefused A.refuses) }
 {
     let mut glyphs = Vec::new(alloc);
@@ -233,7 +236,7 @@ pub(crate) fn glyphs_there<A: Memory>(
     font: &FontOfKind<'_, '_, A>,
 ) -> Result<Vec<u16, A>, NoMemory>
     ensures glyphs { IfOk result (λ glyphs. (g : ℕ) →
-        glyphs_wanted (Some glyphs.items) g ≡ (font_as font.now.0 font.now.1).there g) }
+        glyphs_wanted (Some glyphs.items) g ≡ (font_of font.now.0 font.now.1).there g) }
     ensures memory { OnErr result (IsRefused A.refuses) }
 {
     match font.kind() {

@@ -12,24 +12,25 @@ ghost use Rattle.font_tables.specs.Tables.{head_of};
 ghost use Rattle.codes.specs.CharacterMap.{IsCharacterMap};
 ghost use Rattle.codes.specs.Runs.{IsRun, NoRun};
 ghost use Rattle.font_file.specs.Font.{font_fault};
-ghost use Rattle.font_theory.specs.Content.{Wanted as WantedSets, content, everything, font_of};
+ghost use Rattle.font_theory.specs.Content.{Wanted as WantedSets, content, everything, plain_font};
 ghost use Rattle.font_theory.specs.Cut.{IsCut};
-ghost use Rattle.font_theory.specs.Kinds.{fault_of, font_as, format_of, tables_as};
+ghost use Rattle.font_theory.specs.Kinds.{fault_of, font_of, format_of, tables_of};
 ghost use Rattle.font_theory.specs.declared.kinds.Kind.{Kind};
 ghost use Rattle.font_theory.specs.declared.kinds.Kind.TheVariants.{Full};
-ghost use Rattle.font_subset.specs.KeptGlyphs.{AreVariationsIn, IsKeptSet, IsRootSet, all_asked, asked, codes_asked, codes_wanted, glyphs_wanted, wanted_in, wanted_map};
+ghost use Rattle.font_subset.specs.KeptGlyphs.{IsKeptSet, IsRootSet, all_asked, asked, codes_asked, codes_wanted, glyphs_wanted, wanted_in, wanted_map};
 ghost use Rattle.font_subset.specs.Inside.{AreMarked, IsOpenedFor, IsSeedSet};
+ghost use Rattle.divided_tables.specs.DividedTables.{AreOpen};
 ghost use Rattle.font_subset.specs.ListedRuns.{AreRunsOf};
 
 use crate::accepted::{copied, head, outline, recall_accepted};
 use crate::font_of_kind::FontOfKind;
 use crate::listed_runs::ListedRuns;
 use crate::presence::with_numbers;
+use divided_tables::OpenTables;
 use font_file::Font;
 use font_glyph::{Marks, close};
 use font_map::{Chart, Pieces, Run, Wanted, run_of};
 use font_theory::Kind;
-use font_variations::Variations;
 use font_write::Source;
 use sfnt_bytes::{Memory, NoMemory, SLOTS};
 use std::alloc::{Allocator, Global};
@@ -64,6 +65,7 @@ impl<'f, 'a, A: Allocator> Model for Charted<'f, 'a, A> {
     ghost use Rattle.font_tables.specs.Fields.{glyph_count_of};
     ghost use Rattle.font_file.specs.Font.{cmap_of};
     ghost use Rattle.std.specs.Prelude.{IfSome};
+    ghost use Rattle.divided_tables.specs.DividedTables.{AreOpen};
     ghost use Rattle.font_subset.specs.ListedRuns.{AreRunsOf};
 
     ghost Value = { List ℕ };
@@ -527,8 +529,8 @@ impl<'f, 'a, A: Allocator> Selection<'f, 'a, A> {
     // Returns the table of a slot after those of the tables that every cut keeps, where a cut of the kind copies it.
     fn further(&self, slot: usize) -> Option<&[u8]>
         requires { KEPT_SLOTS ≤ slot }
-        ensures table { MatchOption result (tables_as self.now.0 self.now.1.0 slot ≡ None)
-            (λ b. tables_as self.now.0 self.now.1.0 slot ≡ Some b.now) }
+        ensures table { MatchOption result (tables_of self.now.0 self.now.1.0 slot ≡ None)
+            (λ b. tables_of self.now.0 self.now.1.0 slot ≡ Some b.now) }
         ensures small { MatchOption result Unit (λ b. length b.now ≤ MAX_FILE) }
     {
         match self.opened {
@@ -537,12 +539,13 @@ impl<'f, 'a, A: Allocator> Selection<'f, 'a, A> {
         }
     }
 
-    /// Returns the variation data of the font, where a cut of the kind keeps them and the font has some.
-    pub(crate) fn variations(&self) -> Option<&Variations<'a>>
-        ensures { AreVariationsIn self.now.0 self.now.1.0 (option_copied result) }
+    /// Returns the tables of the font that have something of each glyph, of which full cuts need none.
+    pub(crate) fn divided(&self) -> Option<&OpenTables<'a>>
+        ensures { MatchOption result (self.now.0 ≡ Full)
+            (λ tables. AreOpen (tables_of self.now.0 self.now.1.0) tables.now) }
     {
         match self.opened {
-            Some(opened) => opened.variations(),
+            Some(opened) => Some(opened.divided()),
             None => None,
         }
     }
@@ -628,8 +631,8 @@ impl<'f, 'a, A: Allocator> Selection<'f, 'a, A> {
         requires form { IsCut (format_of self.now.0) self.now.1.0 }
         requires all { self.now.1.1 ≡ all_asked }
         ensures outline { MatchOption result
-            ((content (font_as self.now.0 self.now.1.0) everything).outline g ≡ None)
-            (λ b. (content (font_as self.now.0 self.now.1.0) everything).outline g ≡ Some b.now) }
+            ((content (font_of self.now.0 self.now.1.0) everything).outline g ≡ None)
+            (λ b. (content (font_of self.now.0 self.now.1.0) everything).outline g ≡ Some b.now) }
         ensures small { MatchOption result Unit (λ b. length b.now ≤ MAX_FILE) }
     {
         if self.keeps(g) {

@@ -1,6 +1,6 @@
 //! The texts of refusals, byte for byte as `check` prints them.
 ghost use Rattle.std.specs.Prelude.{◌≡◌, Some};
-ghost use Rattle.font_tables.specs.Text.{error_number, error_text};
+ghost use Rattle.font_tables.specs.Text.{table_error_number, table_error_text};
 
 use crate::tables::TableError;
 use sfnt_bytes::numbers;
@@ -8,7 +8,7 @@ use std::error::Error;
 use std::fmt;
 
 impl fmt::Display for TableError {
-    ghost output = { λ e. Some (error_text e) };
+    ghost output = { λ e. Some (table_error_text e) };
 
     fn fmt<W: fmt::Write>(&self, f: &mut fmt::Formatter<W>) -> fmt::Result {
         match self {
@@ -27,7 +27,7 @@ impl Error for TableError {}
 impl TableError {
     /// Returns the number of the refusal, 7 to 12.
     pub fn number(&self) -> u8
-        ensures { result ≡ error_number self.now }
+        ensures { result ≡ table_error_number self.now }
     {
         match self {
             TableError::MissingTable(_) => numbers::MISSING_TABLE,

@@ -13,5 +13,5 @@ pub use crate::font_scripts::{
 };
 pub use crate::shown::{Shown, ShownWord, shown_character};
 pub use crate::style_sheet::add_rule;
-pub use crate::table_bytes::{long_at, number_at, table_named, three_at};
+pub use crate::table_bytes::{long_at, number_at, table_named};
 pub use crate::variations::{add_variations, axis_count, axis_tags};

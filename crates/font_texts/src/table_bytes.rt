@@ -14,14 +14,6 @@ pub fn number_at(bytes: &[u8], at: usize) -> usize
     }
 }
 
-/// Returns the number of three bytes at a place, or 0 if they are not there.
-pub fn three_at(bytes: &[u8], at: usize) -> u32 {
-    match bytes.get(at..at.saturating_add(3)) {
-        Some(three) => u32::from_be_bytes([0, three[0], three[1], three[2]]),
-        None => 0,
-    }
-}
-
 /// Returns the number of four bytes at a place, or 0 if they are not there.
 pub fn long_at(bytes: &[u8], at: usize) -> usize {
     match bytes.get(at..at.saturating_add(4)) {

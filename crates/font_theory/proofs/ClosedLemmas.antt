@@ -23,8 +23,8 @@ use Rattle.font_glyph.specs.Reach.Reach.{seed, part}
 use Rattle.font_glyph.proofs.ReachLemmas.{reached_decides}
 use Rattle.font_theory.specs.Bytes.{padded}
 use Rattle.font_theory.specs.Closed.{NUMBERS, closed, is_linked_kept, is_linked_root, is_start, linked_content}
-use Rattle.font_theory.specs.Content.{CODES, Content, Font, IsFont, Wanted, content, either, glyph_count, is_kept}
-use Rattle.font_theory.specs.Content.{font_of, is_root, is_seed, of_codes, read_back}
+use Rattle.font_theory.specs.Content.{CODES, Content, Font, IsFont, Wanted, content, either_wanted, glyph_count}
+use Rattle.font_theory.specs.Content.{is_kept, is_root, is_seed, of_codes, plain_font, read_back}
 use Rattle.font_theory.specs.Cut.{cut}
 use Rattle.font_theory.specs.File.{Writing, adjustment_in, bytes_in_slot, current_writing, file, groups_of_content}
 use Rattle.font_theory.specs.File.{outlines_of}
@@ -105,7 +105,7 @@ module _ (links : ℕ → List ℕ) (m : ℕ → ℕ) where
         (closed-decides W g)) i;
   }
 
-  -- the closure of what either wants
+  -- the closure of what either_wanted wants
   module _ (past : (c : ℕ) → CODES ≤ c → m c ≡ 0) where
     past_on : (codes : ℕ → Bool) (c : ℕ) → CODES ≤ c → restricted codes m c ≡ 0
     past_on codes c h = restricted-cases codes m (λ g. g ≡ 0) c (past c h) refl
@@ -136,9 +136,9 @@ module _ (links : ℕ → List ℕ) (m : ℕ → ℕ) where
         go true b x = inl refl
         go false b x = inr refl
 
-    starts_split : (V W : Wanted) (g : ℕ) → is_start m (either V W) g ≡ true → (is_start m V g ≡ true)
+    starts_split : (V W : Wanted) (g : ℕ) → is_start m (either_wanted V W) g ≡ true → (is_start m V g ≡ true)
         ⊎ (is_start m W g ≡ true)
-    starts_split V W g h = elim (is_start-cases (either V W) g h) [
+    starts_split V W g h = elim (is_start-cases (either_wanted V W) g h) [
       | inl e ↦ elim (seeds_split V.codes W.codes g e) [
         | inl x ↦ inl (is_start-seed V g x)
         | inr x ↦ inr (is_start-seed W g x)
@@ -149,34 +149,35 @@ module _ (links : ℕ → List ℕ) (m : ℕ → ℕ) where
       ]
     ]
 
-    starts_left : (V W : Wanted) (g : ℕ) → is_start m V g ≡ true → is_start m (either V W) g ≡ true
+    starts_left : (V W : Wanted) (g : ℕ) → is_start m V g ≡ true → is_start m (either_wanted V W) g ≡ true
     starts_left V W g h = elim (is_start-cases V g h) [
-      | inl e ↦ is_start-seed (either V W) g (seeds_less V.codes (either V W).codes
+      | inl e ↦ is_start-seed (either_wanted V W) g (seeds_less V.codes (either_wanted V W).codes
           (λ c x. or_left (V.codes c) (W.codes c) x) g e)
-      | inr e ↦ is_start-glyph (either V W) g (or_left (V.glyphs g) (W.glyphs g) e)
+      | inr e ↦ is_start-glyph (either_wanted V W) g (or_left (V.glyphs g) (W.glyphs g) e)
     ]
 
-    starts_right : (V W : Wanted) (g : ℕ) → is_start m W g ≡ true → is_start m (either V W) g ≡ true
+    starts_right : (V W : Wanted) (g : ℕ) → is_start m W g ≡ true → is_start m (either_wanted V W) g ≡ true
     starts_right V W g h = elim (is_start-cases W g h) [
-      | inl e ↦ is_start-seed (either V W) g (seeds_less W.codes (either V W).codes
+      | inl e ↦ is_start-seed (either_wanted V W) g (seeds_less W.codes (either_wanted V W).codes
           (λ c x. or_right (V.codes c) (W.codes c) x) g e)
-      | inr e ↦ is_start-glyph (either V W) g (or_right (V.glyphs g) (W.glyphs g) e)
+      | inr e ↦ is_start-glyph (either_wanted V W) g (or_right (V.glyphs g) (W.glyphs g) e)
     ]
 
     linked-either : (V W : Wanted) (g : ℕ)
         → Linked links (is_start m V) NUMBERS g ⊎ Linked links (is_start m W) NUMBERS g
-        → Linked links (is_start m (either V W)) NUMBERS g
+        → Linked links (is_start m (either_wanted V W)) NUMBERS g
     linked-either V W g (inl r) = Linked-more links NUMBERS _ _ (starts_left V W) g r
     linked-either V W g (inr r) = Linked-more links NUMBERS _ _ (starts_right V W) g r
 
-    pub closed-either : (V W : Wanted) → closed links m (either V W) ≡ either (closed links m V) (closed links m W)
+    pub closed-either : (V W : Wanted) → closed links m (either_wanted V W)
+        ≡ either_wanted (closed links m V) (closed links m W)
     unfolding closed
     closed-either V W = λ i. record {
       codes = λ c. V.codes c || W.codes c;
-      glyphs = fun_ext (λ g. sym (same_from_decides {P = Linked links (is_start m (either V W)) NUMBERS g} _ _
+      glyphs = fun_ext (λ g. sym (same_from_decides {P = Linked links (is_start m (either_wanted V W)) NUMBERS g} _ _
           (Decides-like _ (linked-either V W g) (Linked-split links NUMBERS _ _ _ (starts_split V W) g)
           (Decides-or _ _ (closed-decides V g) (closed-decides W g)))
-          (closed-decides (either V W) g))) i;
+          (closed-decides (either_wanted V W) g))) i;
     }
 
 -- on a cut a closure is what it is on the font, of the codes in both
@@ -358,16 +359,16 @@ module _ (s : Settings) (is : AreSettings s) (links : ℕ → List ℕ) (codes :
   okD = IsFont-divided s.partition is.partition (font_by s X) (IsFont-by s is X accepted)
 
   gone : (g : ℕ) → D.there g ≡ false → g < glyph_count (tables_by s X)
-      → has_record ((font_of X).outline g) (λ slot. parts_of s.partition (tables_by s X) slot g) ≡ false
+      → has_record ((plain_font X).outline g) (λ slot. parts_of s.partition (tables_by s X) slot g) ≡ false
   unfolding there_by
   gone g f low =
       sym ((λ i. by i && (lt-ltb g (glyph_count (tables_by s X)) low i
-      && has_record ((font_of X).outline g) (λ slot. parts_of s.partition (tables_by s X) slot g)))) ∙ f
+      && has_record ((plain_font X).outline g) (λ slot. parts_of s.partition (tables_by s X) slot g)))) ∙ f
 
   blank-by : (g : ℕ) → D.there g ≡ false → g < glyph_count D.copied → IsBlank D g
   blank-by g f low =
       let count = glyph_count-alike (tables_by s X) D.copied (frames-other s.partition is.partition (tables_by s X)) in
-      let w = record-tells ((font_of X).outline g) (λ slot. parts_of s.partition (tables_by s X) slot g)
+      let w = record-tells ((plain_font X).outline g) (λ slot. parts_of s.partition (tables_by s X) slot g)
       (gone g f (subst (λ (n : ℕ). g < n) count low)) in (
         w.0,
         (λ slot. elim (cases_lt slot ALL_SLOTS) [

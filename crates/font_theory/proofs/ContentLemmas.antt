@@ -14,7 +14,7 @@ use Rattle.font_glyph.specs.Reach.Reach.{seed, part}
 use Rattle.font_glyph.specs.Record.{IsRecord}
 use Rattle.font_theory.specs.Bytes.{padded}
 use Rattle.font_theory.specs.Content.{Content, Font, IsClosedContent, IsFont, Wanted, content, everything, glyph_count}
-use Rattle.font_theory.specs.Content.{is_kept, is_root, is_seed, of_codes, read_back, within}
+use Rattle.font_theory.specs.Content.{is_kept, is_root, is_seed, of_codes, read_back, wanted_within}
 use Rattle.font_theory.proofs.WantedLemmas.{IsKept, Reach-along, Reach-back, is_kept-decides, is_root-more}
 use Rattle.font_theory.proofs.WantedLemmas.{is_root-same}
 use Rattle.font_theory.proofs.WantedLemmas.{is_root-seed, is_root-tells, is_root-there, is_seed-code, is_seed-more}
@@ -138,11 +138,11 @@ seeds-less F A B ok less =
     go true false x h = let e : false ≡ true = h refl in cc
     go false b x h = inl refl
 
--- what is wanted within a cut keeps no more than the cut
+-- what is wanted wanted_within a cut keeps no more than the cut
 module _ (F : Font) (A B : Wanted) (ok : IsFont F) where
-  pub IsKept-less : (g : ℕ) → IsKept F (within F A B) g → IsKept F A g
-  IsKept-less g (seed h) = elim (is_root-tells F (within F A B) g h) [
-    | inl e ↦ seed (is_root-seed F A g (seeds-less F (within F A B) A ok
+  pub IsKept-less : (g : ℕ) → IsKept F (wanted_within F A B) g → IsKept F A g
+  IsKept-less g (seed h) = elim (is_root-tells F (wanted_within F A B) g h) [
+    | inl e ↦ seed (is_root-seed F A g (seeds-less F (wanted_within F A B) A ok
         (λ c x. (and_parts (A.codes c) (B.codes c) x).0) g e))
     | inr e ↦ (is_kept-decides F A ok g).0 (and_parts (is_kept F A g) (B.glyphs g) e.0).0
   ]
@@ -152,9 +152,9 @@ pub read_back-reached : (F : Font) (A : Wanted) → IsFont F → (g : ℕ) → I
     → (read_back (content F A)).outline g ≡ padded (F.outline g)
 read_back-reached F A ok g r = read_back-kept F A g ((is_kept-decides F A ok g).1 r)
 
--- a cut of a cut is a cut for what is wanted within it
+-- a cut of a cut is a cut for what is wanted wanted_within it
 pub content-read_back : (F : Font) (A B : Wanted) → IsFont F → content (read_back (content F A)) B
-    ≡ content F (within F A B)
+    ≡ content F (wanted_within F A B)
 content-read_back F A B ok =
     content-same _ _ _ _ (IsFont-read_back F A ok) ok refl refl
     (restricted-restricted B.codes A.codes F.map
@@ -174,14 +174,14 @@ content-read_back F A B ok =
 pub content-within : (F : Font) (A B C : Wanted) → IsFont F → ((c : ℕ) → (A.codes c && B.codes c) ≡ C.codes c)
     → ((g : ℕ) → IsKept F A g → B.glyphs g ≡ true → F.there g ≡ true → IsKept F C g)
     → ((g : ℕ) → C.glyphs g ≡ true → F.there g ≡ true → (is_kept F A g && B.glyphs g) ≡ true)
-    → content F (within F A B) ≡ content F C
+    → content F (wanted_within F A B) ≡ content F C
 content-within F A B C ok codes to from =
-    content-kept F (within F A B) C (ap (λ (w : ℕ → Bool). restricted w F.map) (fun_ext codes))
+    content-kept F (wanted_within F A B) C (ap (λ (w : ℕ → Bool). restricted w F.map) (fun_ext codes))
     (fun_ext (λ g. same_from_decides {P = IsKept F C g} _ _
-    (Decides-like _ (forth g) (back g) (is_kept-decides F (within F A B) ok g)) (is_kept-decides F C ok g)))
+    (Decides-like _ (forth g) (back g) (is_kept-decides F (wanted_within F A B) ok g)) (is_kept-decides F C ok g)))
   where
-    forth : (g : ℕ) → IsKept F (within F A B) g → IsKept F C g
-    forth g (seed h) = elim (is_root-tells F (within F A B) g h) [
+    forth : (g : ℕ) → IsKept F (wanted_within F A B) g → IsKept F C g
+    forth g (seed h) = elim (is_root-tells F (wanted_within F A B) g h) [
       | inl e ↦ seed (is_root-seed F C g (subst (λ (w : ℕ → Bool). is_seed (restricted w F.map) g
           ≡ true) (fun_ext codes)
           e))
@@ -190,13 +190,13 @@ content-within F A B C ok codes to from =
     ]
     forth g (part {s = s} r c) = part (forth s r) c
 
-    back : (g : ℕ) → IsKept F C g → IsKept F (within F A B) g
-    back = Reach-along _ _ _ _ (is_root-more F F C (within F A B)
+    back : (g : ℕ) → IsKept F C g → IsKept F (wanted_within F A B) g
+    back = Reach-along _ _ _ _ (is_root-more F F C (wanted_within F A B)
         (λ g e. subst (λ (w : ℕ → Bool). is_seed (restricted w F.map) g ≡ true) (sym (fun_ext codes)) e)
         (λ g w t. (from g w t, t))) (λ _ _ _ p. p)
 
 -- all of a cut is the cut
-pub content-all : (F : Font) (A : Wanted) → IsFont F → content F (within F A everything) ≡ content F A
+pub content-all : (F : Font) (A : Wanted) → IsFont F → content F (wanted_within F A everything) ≡ content F A
 content-all F A ok = content-within F A everything A ok (λ c. and_comm (A.codes c) true) (λ g r _ _. r)
     (λ g w t. and_from (is_kept F A g) true (kept-there F A ok g w t) refl)
 

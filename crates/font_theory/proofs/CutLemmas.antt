@@ -10,8 +10,8 @@ use Rattle.std.proofs.lemmas.Bool.Decides.{nat_tests}
 use Rattle.std.proofs.lemmas.Slice.Eq.{bytes_eq-Decides}
 use Rattle.codes.specs.CharacterMap.{is_mapped, restricted, united}
 use Rattle.codes.proofs.MapLemmas.{same_cond}
-use Rattle.font_theory.specs.Content.{Content, IsClosedContent, Wanted, content, either, everything, is_kept, read_back}
-use Rattle.font_theory.specs.Content.{within}
+use Rattle.font_theory.specs.Content.{Content, IsClosedContent, Wanted, content, either_wanted, everything, is_kept}
+use Rattle.font_theory.specs.Content.{read_back, wanted_within}
 use Rattle.font_theory.specs.Cut.{Arises, CanJoin, Format, IsCurrent, IsCut, IsFormat, IsOld, Under, Writes, codes_of}
 use Rattle.font_theory.specs.Cut.{wanted_of, cut, is_current, is_cut, is_old, joined, renewed, content_of_all}
 use Rattle.font_theory.specs.Cut.{misfit_of}
@@ -174,10 +174,10 @@ module _ (R : Format) (law : IsFormat R) where
     pub IsCut-cut : IsCut R X
     IsCut-cut = IsCut-written _ X arises w small
 
-    pub content-cut : (B : Wanted) → content (R.font X) B ≡ content (R.font F) (within (R.font F) A B)
+    pub content-cut : (B : Wanted) → content (R.font X) B ≡ content (R.font F) (wanted_within (R.font F) A B)
     content-cut B = ap (λ G. content G B) font-cut ∙ content-read_back (R.font F) A B (law.is_font F h)
 
-    pub cut-cut : (B : Wanted) → cut R X B ≡ cut R F (within (R.font F) A B)
+    pub cut-cut : (B : Wanted) → cut R X B ≡ cut R F (wanted_within (R.font F) A B)
     cut-cut B = ap R.file (content-cut B)
 
     pub cut-less : (B : Wanted) → ((c : ℕ) → B.codes c ≡ true → A.codes c ≡ true)
@@ -205,7 +205,7 @@ module _ (R : Format) (law : IsFormat R) where
   module _ (F : List ℕ) (h : R.fault F ≡ None) (A B : Wanted) (X Y : List ℕ)
       (wX : Writes R (content (R.font F) A) X) (wY : Writes R (content (R.font F) B) Y) (sX : length X ≤ R.limit)
       (sY : length Y ≤ R.limit) where
-    both-cuts : both (content_of_all R X) (content_of_all R Y) ≡ content (R.font F) (either A B)
+    both-cuts : both (content_of_all R X) (content_of_all R Y) ≡ content (R.font F) (either_wanted A B)
     both-cuts = both_is (content_of_all-cut F h A X wX sX) (content_of_all-cut F h B Y wY sY)
         ∙ both-content (R.font F) A B (law.is_font F h)
 
@@ -215,10 +215,10 @@ module _ (R : Format) (law : IsFormat R) where
       second = IsCut-cut F h B Y wY sY;
       agree = rw (content_of_all-cut F h A X wX sX, content_of_all-cut F h B Y wY sY)
           (Agree-content (R.font F) A B (law.is_font F h));
-      fit = ap R.misfit both-cuts ∙ law.own_fit F (either A B) h;
+      fit = ap R.misfit both-cuts ∙ law.own_fit F (either_wanted A B) h;
     }
 
-    pub joined-cuts : joined R X Y ≡ cut R F (either A B)
+    pub joined-cuts : joined R X Y ≡ cut R F (either_wanted A B)
     joined-cuts = ap R.file both-cuts
 
   -- a join is above both files
@@ -280,7 +280,8 @@ module _ (R : Format) (law : IsFormat R) where
 
   -- and all that they have fits
   pub both-under : (X Y F : List ℕ) → Under R X F → Under R Y F → length X ≤ R.limit → length Y ≤ R.limit
-      → both (content_of_all R X) (content_of_all R Y) ≡ content (R.font F) (either (wanted_of R X) (wanted_of R Y))
+      → both (content_of_all R X) (content_of_all R Y)
+      ≡ content (R.font F) (either_wanted (wanted_of R X) (wanted_of R Y))
   both-under X Y F u v sx sy = both_is (content_of_all-under X F u sx) (content_of_all-under Y F v sy)
       ∙ both-content (R.font F) _ _ (law.is_font F u.accepted)
 
@@ -315,7 +316,7 @@ module _ (R : Format) (law : IsFormat R) where
       L : Content
       L = content_of_all R Y
 
-      union : both K L ≡ content (R.font F) (either (wanted_of R X) (wanted_of R Y))
+      union : both K L ≡ content (R.font F) (either_wanted (wanted_of R X) (wanted_of R Y))
       union = both-under X Y F u v sx sy
 
       there_joined : (g : ℕ) → (both K L).there g ≡ (K.there g || L.there g)
@@ -333,18 +334,18 @@ module _ (R : Format) (law : IsFormat R) where
               ∙ sym (or_self (K.there g))
               ∙ ap (λ b. K.there g || b) (can.agree.there g k.0 l.0 k.1 l.1)
 
-      own_joined : own (both K L) ≡ either (own K) (own L)
+      own_joined : own (both K L) ≡ either_wanted (own K) (own L)
       own_joined = λ i. record {
         codes = λ c. is_mapped-united K.map L.map c i;
         glyphs = λ g. there_joined g i;
       }
 
-      wanted_joined : wanted_of R (joined R X Y) ≡ either (wanted_of R X) (wanted_of R Y)
+      wanted_joined : wanted_of R (joined R X Y) ≡ either_wanted (wanted_of R X) (wanted_of R Y)
       wanted_joined =
           wanted_of-whole (joined R X Y) (IsCut-joined X Y can small)
           ∙ ap own (content_of_all-joined X Y can small)
           ∙ own_joined
-          ∙ (λ i. either (sym (wanted_of-whole X can.first) i) (sym (wanted_of-whole Y can.second) i))
+          ∙ (λ i. either_wanted (sym (wanted_of-whole X can.first) i) (sym (wanted_of-whole Y can.second) i))
 
       same : both K L ≡ content (R.font F) (wanted_of R (joined R X Y))
       same = union ∙ ap (content (R.font F)) (sym wanted_joined)

@@ -11,17 +11,18 @@ use Rattle.std.proofs.lemmas.Bool.Decides.{nat_tests}
 use Rattle.std.proofs.lemmas.List.{ext_get_or, get_or_past}
 use Rattle.std.proofs.lemmas.List.FromFn.{get_or-map-range_with_len, length-map-range_with_len}
 use Rattle.codes.proofs.MapLemmas.{same_cond}
-use Rattle.font_theory.specs.Parted.{blank, cleared, entry_at, entry_size, holder, is_entry, laid, metric_bytes, within}
+use Rattle.font_theory.specs.Parted.{blank, cleared, entry_size, entry_start, holder, is_entry, laid, metric_bytes}
+use Rattle.font_theory.specs.Parted.{place_in_entry}
 
 -- byte i of glyph g is of that glyph
 pub record IsByteOf (k n g i j : ℕ) : Type 0 where
   pub is_entry : is_entry k n j ≡ true
   pub holder : holder k j ≡ g
-  pub within : within k j ≡ i
+  pub within : place_in_entry k j ≡ i
   pub inside : j < 2 * (k + n)
 
 is_pair : (k n g i : ℕ) → 0 < k → k ≤ n → g < n → g + 1 < k → i < 4 → IsByteOf k n g i (4 * g + i)
-unfolding is_entry holder within
+unfolding is_entry holder place_in_entry
 is_pair k n g i some few low pair small =
     let low' : nat_lt (4 * g + i + 4) (4 * k) ≡ true = lt-ltb _ _ (omega arith) in
     let inside : nat_lt (4 * g + i) (2 * (k + n)) ≡ true = lt-ltb _ _ (omega arith) in
@@ -34,7 +35,7 @@ is_pair k n g i some few low pair small =
     }
 
 is_bearing : (k n g i : ℕ) → 0 < k → k ≤ n → g < n → k ≤ g + 1 → i < 2 → IsByteOf k n g i (2 * (k + g) + i)
-unfolding is_entry holder within
+unfolding is_entry holder place_in_entry
 is_bearing k n g i some few low late small =
     let high : nat_lt (2 * (k + g) + i + 4) (4 * k) ≡ false = le-ltb _ _ (omega arith) in
     let far : nat_le (4 * k) (2 * (k + g) + i + 2) ≡ true = le-leb _ _ (omega arith) in
@@ -47,8 +48,8 @@ is_bearing k n g i some few low late small =
       inside = omega arith;
     }
 
-pub is_byte_of : (k n g i : ℕ) → 0 < k → k ≤ n → g < n → i < entry_size k g → IsByteOf k n g i (entry_at k g + i)
-unfolding entry_size entry_at
+pub is_byte_of : (k n g i : ℕ) → 0 < k → k ≤ n → g < n → i < entry_size k g → IsByteOf k n g i (entry_start k g + i)
+unfolding entry_size entry_start
 is_byte_of k n g i some few low small =
     let ne : nat_eq k 0 ≡ false = ne_eqb k 0 (λ e. omega arith) in
     elim (cases_lt (g + 1) k) [
@@ -64,7 +65,7 @@ is_byte_of k n g i some few low small =
 
 -- byte j of a table with the bytes of glyphs
 abbrev pub laid_byte : (ℕ → List ℕ) → ℕ → ℕ → List ℕ → ℕ → ℕ
-laid_byte parts k n t j = cond (is_entry k n j) (get_or (parts (holder k j)) (within k j) 0) (get_or t j 0)
+laid_byte parts k n t j = cond (is_entry k n j) (get_or (parts (holder k j)) (place_in_entry k j) 0) (get_or t j 0)
 
 pub length-laid : (parts : ℕ → List ℕ) (k n : ℕ) (t : List ℕ) → length (laid parts k n t) ≡ length t
 unfolding laid
@@ -83,8 +84,10 @@ laid-laid parts before k n t =
     let size' = length-laid parts k n (laid before k n t) in
     let size'' = length-laid parts k n t in
     ext_get_or 0 _ _ (omega arith) (λ j low. get_or-laid parts k n (laid before k n t) j (omega arith)
-    ∙ ap (cond (is_entry k n j) (get_or (parts (holder k j)) (within k j) 0)) (get_or-laid before k n t j (omega arith))
-    ∙ go (is_entry k n j) (get_or (parts (holder k j)) (within k j) 0) (get_or (before (holder k j)) (within k j) 0)
+    ∙ ap (cond (is_entry k n j) (get_or (parts (holder k j)) (place_in_entry k j) 0))
+    (get_or-laid before k n t j (omega arith))
+    ∙ go (is_entry k n j) (get_or (parts (holder k j)) (place_in_entry k j) 0)
+    (get_or (before (holder k j)) (place_in_entry k j) 0)
     (get_or t j 0)
     ∙ sym (get_or-laid parts k n t j (omega arith)))
   where
@@ -121,7 +124,8 @@ four-same k g a b h = ap (λ f. map f (range_with_len 0 4)) (fun_ext (λ i. go i
 pub four-zero : (k g : ℕ) → four k g (λ i. 0) ≡ replicate 4 0
 four-zero k g = ap (λ f. map f (range_with_len 0 4)) (fun_ext (λ i. same_cond (nat_lt i (entry_size k g)) 0))
 
-pub metric_bytes-is : (k : ℕ) (t : List ℕ) (g : ℕ) → metric_bytes k t g ≡ four k g (λ i. get_or t (entry_at k g + i) 0)
+pub metric_bytes-is : (k : ℕ) (t : List ℕ) (g : ℕ) → metric_bytes k t g
+    ≡ four k g (λ i. get_or t (entry_start k g + i) 0)
 unfolding metric_bytes
 metric_bytes-is k t g = refl
 
@@ -146,17 +150,17 @@ metric_bytes-laid parts k n t g there low =
     let b = is_byte_of k n g i some (there.few some) low h in
     let room = there.room some in
     let inside = b.inside in
-    get_or-laid parts k n t (entry_at k g + i) (omega arith)
-    ∙ (λ p. cond (b.is_entry p) (get_or (parts (b.holder p)) (b.within p) 0) (get_or t (entry_at k g + i) 0)))
+    get_or-laid parts k n t (entry_start k g + i) (omega arith)
+    ∙ (λ p. cond (b.is_entry p) (get_or (parts (b.holder p)) (b.within p) 0) (get_or t (entry_start k g + i) 0)))
 
 -- a byte that is of one glyph stands where that glyph's bytes do
 pub record IsPlace (k n j : ℕ) : Type 0 where
   pub low : holder k j < n
-  pub small : within k j < entry_size k (holder k j)
-  pub at : entry_at k (holder k j) + within k j ≡ j
+  pub small : place_in_entry k j < entry_size k (holder k j)
+  pub at : entry_start k (holder k j) + place_in_entry k j ≡ j
 
 place-pair : (k n j : ℕ) → 0 < k → k ≤ n → j + 4 < 4 * k → IsPlace k n j
-unfolding holder within entry_size entry_at
+unfolding holder place_in_entry entry_size entry_start
 place-pair k n j some few pair =
     let t : nat_lt (j + 4) (4 * k) ≡ true = lt-ltb _ _ pair in
     let t' : nat_lt (j / 4 + 1) k ≡ true = lt-ltb _ _ (omega arith) in
@@ -164,7 +168,7 @@ place-pair k n j some few pair =
     record { low = rw t (omega arith); small = rw (t, ne, t') (omega arith); at = rw (t, t') (omega arith) }
 
 place-bearing : (k n j : ℕ) → 0 < k → k ≤ n → j < 2 * (k + n) → 4 * k ≤ j + 2 → IsPlace k n j
-unfolding holder within entry_size entry_at
+unfolding holder place_in_entry entry_size entry_start
 place-bearing k n j some few inside late =
     let f : nat_lt (j + 4) (4 * k) ≡ false = le-ltb _ _ (omega arith) in
     let f' : nat_lt ((j - 2 * k) / 2 + 1) k ≡ false = le-ltb _ _ (omega arith) in

@@ -25,8 +25,8 @@ use Rattle.font_file.specs.Font.{cmap_of, font_fault, map_of}
 use Rattle.font_file.specs.declared.font_error.FontError.{FontError}
 use Rattle.font_file.specs.declared.font_error.FontError.TheVariants.{Directory, Tables}
 use Rattle.font_file.proofs.FontLemmas.{directory_fault-accepted, font_fault_is, is_record-accepted}
-use Rattle.font_theory.specs.Content.{CODES, IsFont, IsPlain, font_of, glyph_count, is_made, is_never_copied}
-use Rattle.font_theory.specs.Content.{metric_count, table_in_slot}
+use Rattle.font_theory.specs.Content.{CODES, IsFont, IsPlain, glyph_count, is_made, is_never_copied, metric_count}
+use Rattle.font_theory.specs.Content.{plain_font, table_in_slot}
 use Rattle.font_theory.proofs.LinkLemmas.{is_bad_variations_in-none, never-in_plain}
 use Rattle.font_theory.proofs.LinkLemmas.{never-layout}
 use Rattle.font_theory.proofs.CutHeadLemmas.{cut_head-cut_head, head-size, is_bad_head-cut_head}
@@ -49,34 +49,34 @@ table_fault-accepted file accepted =
     none (Some error) h = cc
 
 -- the tables in the slots of a font are those of the file's tags
-pub hhea-slot : (file : List ℕ) → table_in_slot (font_of file).copied 7 ≡ hhea_of file
+pub hhea-slot : (file : List ℕ) → table_in_slot (plain_font file).copied 7 ≡ hhea_of file
 unfolding table_or_empty
 hhea-slot file = ap (λ tag. unwrap_or (table_of file tag) []) are_slots.hhea
 
-pub hmtx-slot : (file : List ℕ) → table_in_slot (font_of file).copied 8 ≡ hmtx_of file
+pub hmtx-slot : (file : List ℕ) → table_in_slot (plain_font file).copied 8 ≡ hmtx_of file
 unfolding table_or_empty
 hmtx-slot file = ap (λ tag. unwrap_or (table_of file tag) []) are_slots.hmtx
 
-maxp-slot : (file : List ℕ) → table_in_slot (font_of file).copied 10 ≡ maxp_of file
+maxp-slot : (file : List ℕ) → table_in_slot (plain_font file).copied 10 ≡ maxp_of file
 unfolding table_or_empty
 maxp-slot file = ap (λ tag. unwrap_or (table_of file tag) []) are_slots.maxp
 
-pub glyph_count-file : (file : List ℕ) → glyph_count (font_of file).copied ≡ glyph_count_of file
+pub glyph_count-file : (file : List ℕ) → glyph_count (plain_font file).copied ≡ glyph_count_of file
 unfolding glyph_count glyph_count_of
 glyph_count-file file = ap num_glyphs (maxp-slot file)
 
-pub metric_count-file : (file : List ℕ) → metric_count (font_of file).copied ≡ metric_count_of file
+pub metric_count-file : (file : List ℕ) → metric_count (plain_font file).copied ≡ metric_count_of file
 unfolding metric_count metric_count_of
 metric_count-file file = ap number_of_h_metrics (hhea-slot file)
 
 -- files with the same copied tables have the same metrics
-pub metric_of-same : (file other : List ℕ) → (font_of other).copied ≡ (font_of file).copied → (g : ℕ)
+pub metric_of-same : (file other : List ℕ) → (plain_font other).copied ≡ (plain_font file).copied → (g : ℕ)
     → metric_of other g ≡ metric_of file g
 unfolding metric_of
 metric_of-same file other same g =
-    let table : table_in_slot (font_of other).copied 8 ≡ table_in_slot (font_of file).copied 8 =
+    let table : table_in_slot (plain_font other).copied 8 ≡ table_in_slot (plain_font file).copied 8 =
     ap (λ copied. table_in_slot copied 8) same in
-    let count : metric_count (font_of other).copied ≡ metric_count (font_of file).copied = ap metric_count same in
+    let count : metric_count (plain_font other).copied ≡ metric_count (plain_font file).copied = ap metric_count same in
     (λ i. metric_in ((sym (hmtx-slot other) ∙ table ∙ hmtx-slot file) i) ((sym (metric_count-file other) ∙ count
     ∙ metric_count-file file) i) g)
 
@@ -117,10 +117,10 @@ pub never-made : (slot : ℕ) → is_never_copied slot ≡ true → is_made slot
 never-made slot h = never-in_plain slot (never-layout slot h)
 
 -- and a plain reader gives no table of layout
-pub IsPlain-font_of : (file : List ℕ) → IsPlain (font_of file).copied
+pub IsPlain-font_of : (file : List ℕ) → IsPlain (plain_font file).copied
 IsPlain-font_of file slot made = rw made refl
 
-pub IsFont-accepted : (file : List ℕ) → font_fault file ≡ None → IsFont (font_of file)
+pub IsFont-accepted : (file : List ℕ) → font_fault file ≡ None → IsFont (plain_font file)
 IsFont-accepted file accepted =
     let no_fault = table_fault-accepted file accepted in
     let sound = are_sound file no_fault in
@@ -140,7 +140,7 @@ IsFont-accepted file accepted =
       maxp = subst (λ (b : List ℕ). is_bad_maxp b ≡ false) (sym (maxp-slot file)) sound.maxp;
       hhea = (λ i. is_bad_hhea (hhea-slot file i) (n i)) ∙ sound.hhea;
       hmtx = (λ i. is_bad_hmtx (hmtx-slot file i) (metric_count-file file i) (n i)) ∙ sound.hmtx;
-      variations = is_bad_variations_in-none (font_of file).copied refl;
+      variations = is_bad_variations_in-none (plain_font file).copied refl;
     }
 
 -- a file that is accepted, or refused for another reason, is not too large

@@ -3,7 +3,7 @@ use Rattle.std.proofs.Common.{◌≡◌, ℕ, zero, suc, ◌<◌, ◌≤◌, ◌
 use Rattle.std.proofs.Common.{subst, arith}
 use Rattle.std.proofs.Math.Bool.{or_self}
 use Rattle.std.proofs.lemmas.Bool.{cases_eq}
-use Rattle.font_theory.specs.Content.{Wanted, content, either}
+use Rattle.font_theory.specs.Content.{Wanted, content, either_wanted}
 use Rattle.font_theory.specs.Cut.{CanJoin, Format, IsCurrent, IsCut, IsFormat, Writes, cut, joined}
 use Rattle.font_theory.specs.Cut.{content_of_all, misfit_of}
 use Rattle.font_theory.specs.Agreement.{Agree}
@@ -15,7 +15,7 @@ use Rattle.font_theory.proofs.TreeLemmas.{Stops-clash, Value-current, Value-cut,
 use Rattle.font_theory.proofs.TreeLemmas.{Value-same, Value-small}
 
 -- what one joins with itself stays one set
-pub either-once : (A : ℕ → Wanted) → either (A 0) (A 0) ≡ union_below A 1
+pub either-once : (A : ℕ → Wanted) → either_wanted (A 0) (A 0) ≡ union_below A 1
 either-once A = λ i. record {
   codes = λ c. or_self ((A 0).codes c) i;
   glyphs = λ g. or_self ((A 0).glyphs g) i;
@@ -135,7 +135,7 @@ module _ (R : Format) (law : IsFormat R) (files : List (List ℕ)) where
       → k < length files → length (file_at files k) ≤ R.limit) where
     step : (B : Wanted) (k : ℕ) → k < length files → (x : List ℕ) → Writes R (content (R.font F) B) x
         → length x ≤ R.limit
-        → CanJoin R x (file_at files k) × (joined R x (file_at files k) ≡ cut R F (either B (A k)))
+        → CanJoin R x (file_at files k) × (joined R x (file_at files k) ≡ cut R F (either_wanted B (A k)))
     step B k low x w small = (
       CanJoin-cuts R law F h B (A k) x (file_at files k) w (are k low) small (few k low),
       joined-cuts R law F h B (A k) x (file_at files k) w (are k low) small (few k low),

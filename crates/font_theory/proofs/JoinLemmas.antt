@@ -13,9 +13,8 @@ use Rattle.font_glyph.specs.Reach.{IsComponentOf}
 use Rattle.font_glyph.specs.Reach.Reach.{seed, part}
 use Rattle.font_glyph.specs.Record.{IsRecord}
 use Rattle.font_theory.specs.Bytes.{padded}
-use Rattle.font_theory.specs.Content.{Content, Font, IsClosedContent, IsFont, Wanted, content, either, everything}
-use Rattle.font_theory.specs.Content.{glyph_count}
-use Rattle.font_theory.specs.Content.{is_kept, is_seed, read_back}
+use Rattle.font_theory.specs.Content.{Content, Font, IsClosedContent, IsFont, Wanted, content, either_wanted}
+use Rattle.font_theory.specs.Content.{everything, glyph_count, is_kept, is_seed, read_back}
 use Rattle.font_theory.specs.Agreement.{Agree, both}
 use Rattle.font_theory.proofs.ContentLemmas.{content-path, content-same, nothing_either, parts-path, seeds-less}
 use Rattle.font_theory.proofs.HeldLemmas.{IsHeld, cases_option, held-some, parts-none, some-held, some-padded}
@@ -330,7 +329,7 @@ module _ (K L : Content) (okK : IsClosedContent K) (okL : IsClosedContent L) (ag
           ap (λ x. when x (padded (unwrap_or (union.outline g) []))) t ∙ ap (λ o. Some (padded (unwrap_or o []))) w.1
           ∙ ap Some h.1 ∙ sym w.1
 
--- two contents of one font agree, and their union is its content for what either wants
+-- two contents of one font agree, and their union is its content for what either_wanted wants
 module _ (F : Font) (A B : Wanted) (ok : IsFont F) where
   pub Agree-content : Agree (content F A) (content F B)
   Agree-content = record {
@@ -364,7 +363,7 @@ module _ (F : Font) (A B : Wanted) (ok : IsFont F) where
       same_outline true false o u v x y = cc
       same_outline false b o u v x y = cc
 
-  seeds_either : (g : ℕ) → is_seed (restricted (either A B).codes F.map) g ≡ true
+  seeds_either : (g : ℕ) → is_seed (restricted (either_wanted A B).codes F.map) g ≡ true
       → (is_seed (restricted A.codes F.map) g ≡ true)
       ⊎ (is_seed (restricted B.codes F.map) g ≡ true)
   seeds_either g h =
@@ -384,8 +383,8 @@ module _ (F : Font) (A B : Wanted) (ok : IsFont F) where
       go true b x = inl refl
       go false b x = inr refl
 
-  kept-one : (g : ℕ) → IsKept F (either A B) g → IsKept F A g ⊎ IsKept F B g
-  kept-one g (seed h) = elim (is_root-tells F (either A B) g h) [
+  kept-one : (g : ℕ) → IsKept F (either_wanted A B) g → IsKept F A g ⊎ IsKept F B g
+  kept-one g (seed h) = elim (is_root-tells F (either_wanted A B) g h) [
     | inl e ↦ elim (seeds_either g e) [
       | inl x ↦ inl (seed (is_root-seed F A g x))
       | inr x ↦ inr (seed (is_root-seed F B g x))
@@ -397,24 +396,24 @@ module _ (F : Font) (A B : Wanted) (ok : IsFont F) where
   ]
   kept-one g (part {s = s} r p) = elim (kept-one s r) [ inl h ↦ inl (part h p) | inr h ↦ inr (part h p) ]
 
-  kept-either : (g : ℕ) → IsKept F A g ⊎ IsKept F B g → IsKept F (either A B) g
+  kept-either : (g : ℕ) → IsKept F A g ⊎ IsKept F B g → IsKept F (either_wanted A B) g
   kept-either g (inl h) =
-      Reach-along _ _ _ _ (is_root-more F F A (either A B)
-      (seeds-less F A (either A B) ok (λ c e. or_left (A.codes c) (B.codes c) e))
+      Reach-along _ _ _ _ (is_root-more F F A (either_wanted A B)
+      (seeds-less F A (either_wanted A B) ok (λ c e. or_left (A.codes c) (B.codes c) e))
       (λ x w t. (or_left (A.glyphs x) (B.glyphs x) w, t))) (λ _ _ _ p. p) g h
   kept-either g (inr h) =
-      Reach-along _ _ _ _ (is_root-more F F B (either A B)
-      (seeds-less F B (either A B) ok (λ c e. or_right (A.codes c) (B.codes c) e))
+      Reach-along _ _ _ _ (is_root-more F F B (either_wanted A B)
+      (seeds-less F B (either_wanted A B) ok (λ c e. or_right (A.codes c) (B.codes c) e))
       (λ x w t. (or_right (A.glyphs x) (B.glyphs x) w, t))) (λ _ _ _ p. p) g h
 
-  is_kept-either : (g : ℕ) → (is_kept F A g || is_kept F B g) ≡ is_kept F (either A B) g
+  is_kept-either : (g : ℕ) → (is_kept F A g || is_kept F B g) ≡ is_kept F (either_wanted A B) g
   is_kept-either g =
-      same_from_decides {P = IsKept F (either A B) g} _ _
+      same_from_decides {P = IsKept F (either_wanted A B) g} _ _
       (Decides-like _ (kept-either g) (kept-one g) (Decides-or _ _ (is_kept-decides F A ok g)
       (is_kept-decides F B ok g)))
-      (is_kept-decides F (either A B) ok g)
+      (is_kept-decides F (either_wanted A B) ok g)
 
-  pub both-content : both (content F A) (content F B) ≡ content F (either A B)
+  pub both-content : both (content F A) (content F B) ≡ content F (either_wanted A B)
   both-content = content-path refl refl (united-restricted A.codes B.codes F.map) (fun_ext outline_either)
       (parts-path parts_either) (fun_ext there_either)
     where
@@ -424,7 +423,7 @@ module _ (F : Font) (A B : Wanted) (ok : IsFont F) where
       of_either false b o x = refl
 
       parts_either : (slot g : ℕ) → (both (content F A) (content F B)).parts slot g
-          ≡ (content F (either A B)).parts slot g
+          ≡ (content F (either_wanted A B)).parts slot g
       parts_either slot g =
           of_either (is_kept F A g) (is_kept F B g) (padded (F.outline g)) (F.parts slot g)
           ∙ ap (λ b. cond b (F.parts slot g) []) (is_kept-either g)
@@ -433,7 +432,7 @@ module _ (F : Font) (A B : Wanted) (ok : IsFont F) where
       there_of true b o x = refl
       there_of false b o x = refl
 
-      there_either : (g : ℕ) → (both (content F A) (content F B)).there g ≡ (content F (either A B)).there g
+      there_either : (g : ℕ) → (both (content F A) (content F B)).there g ≡ (content F (either_wanted A B)).there g
       there_either g =
           there_of (is_kept F A g) (is_kept F B g) (padded (F.outline g)) (F.there g)
           ∙ ap (λ b. b && F.there g) (is_kept-either g)
@@ -443,6 +442,7 @@ module _ (F : Font) (A B : Wanted) (ok : IsFont F) where
       go false true o = refl
       go false false o = refl
 
-      outline_either : (g : ℕ) → (both (content F A) (content F B)).outline g ≡ (content F (either A B)).outline g
+      outline_either : (g : ℕ) → (both (content F A) (content F B)).outline g
+          ≡ (content F (either_wanted A B)).outline g
       outline_either g = go (is_kept F A g) (is_kept F B g) (padded (F.outline g))
           ∙ ap (λ x. when x (padded (F.outline g))) (is_kept-either g)

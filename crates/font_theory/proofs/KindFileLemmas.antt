@@ -13,8 +13,8 @@ use Rattle.codes.specs.CharacterMap.{restricted}
 use Rattle.font_glyph.specs.Reach.{Reach}
 use Rattle.font_file.specs.Font.{map_of}
 use Rattle.font_theory.specs.Bytes.{padded}
-use Rattle.font_theory.specs.Content.{Content, Font, IsClosedContent, IsFont, Wanted, content, font_of, glyph_count}
-use Rattle.font_theory.specs.Content.{is_kept, is_never_copied, is_root, is_seed, metric_count, read_back}
+use Rattle.font_theory.specs.Content.{Content, Font, IsClosedContent, IsFont, Wanted, content, glyph_count, is_kept}
+use Rattle.font_theory.specs.Content.{is_never_copied, is_root, is_seed, metric_count, plain_font, read_back}
 use Rattle.font_theory.specs.Content.{table_in_slot}
 use Rattle.font_theory.specs.Cut.{Arises, cut}
 use Rattle.font_theory.specs.Cut.Arises.{of_file}
@@ -42,8 +42,8 @@ module _ (s : Settings) (is : AreSettings s) where
   p = s.partition
 
   -- a plain reader sees all but the tables of layout and of variations
-  pub font_of-by : (X : List ℕ) → font_of X ≡ without_layout (font_by s X)
-  font_of-by X = font_of-seen X (tables_by s X) (there_by s (tables_by s X) (font_of X).outline) (tables_by-below s
+  pub font_of-by : (X : List ℕ) → plain_font X ≡ without_layout (font_by s X)
+  font_of-by X = font_of-seen X (tables_by s X) (there_by s (tables_by s X) (plain_font X).outline) (tables_by-below s
       is X)
 
   module _ (font : List ℕ) (accepted : fault_by s font ≡ None) where
@@ -54,7 +54,7 @@ module _ (s : Settings) (is : AreSettings s) where
     ok = IsFont-by s is font accepted
 
     abbrev is_there : ℕ → Bool
-    is_there = there_by s (tables_by s font) (font_of font).outline
+    is_there = there_by s (tables_by s font) (plain_font font).outline
 
     count : glyph_count (tables_by s font) ≡ glyph_count_of font
     count = count-seen font (tables_by s font) is_there (tables_by-below s is font)
@@ -140,7 +140,7 @@ module _ (s : Settings) (is : AreSettings s) where
       is_kept-by = is_kept-seen font (tables_by s font) is_there (tables_by-below s is font) wanted
           (font_fault-by s is font accepted) ok
 
-      pub kept-plain_by : (g : ℕ) → is_kept (font_of font) wanted g ≡ true → is_kept F wanted g ≡ true
+      pub kept-plain_by : (g : ℕ) → is_kept (plain_font font) wanted g ≡ true → is_kept F wanted g ≡ true
       kept-plain_by = kept-plain font (tables_by s font) is_there (tables_by-below s is font) wanted
           (font_fault-by s is font accepted) ok
 
@@ -158,7 +158,7 @@ module _ (s : Settings) (is : AreSettings s) where
         unfolding reduced
         map_of-by c h = ap (λ (G : Font). G.map c) same ∙ wanted-map F wanted c h
 
-        outline_other : (g : ℕ) → (font_of other).outline g ≡ (read_back (content F wanted)).outline g
+        outline_other : (g : ℕ) → (plain_font other).outline g ≡ (read_back (content F wanted)).outline g
         unfolding reduced
         outline_other g = ap (λ (G : Font). G.outline g) same
 

@@ -23,7 +23,7 @@ use Rattle.font_theory.specs.Cut.Arises.{of_file}
 use Rattle.font_theory.specs.Kinds.{AgreeBy, AreSettings, IsUnionBy, IsWrittenUnion, Settings, by_variations}
 use Rattle.font_theory.specs.Kinds.{font_by, format_by, has_record, read_by, there_by}
 use Rattle.font_theory.specs.Parted.{either_bytes, gvar_with, holder, is_entry, laid, metrics, nameless, pairs_of}
-use Rattle.font_theory.specs.Parted.{variation_data, variations, within}
+use Rattle.font_theory.specs.Parted.{place_in_entry, variation_data, variations}
 use Rattle.font_theory.specs.Parting.{IsPartition, Parting, Partition, Tables, context, divided, frames, may_divide}
 use Rattle.font_theory.specs.Parting.{parts_of, undivided, undivided_content, wholes}
 use Rattle.font_theory.proofs.ArisesLemmas.{IsClosed-arises}
@@ -153,10 +153,10 @@ laid-either u first second k n t each =
     ∙ (λ i. bit_or (sym (get_or-laid first k n t j (omega arith)) i) (sym (get_or-laid second k n t j (omega arith)) i))
     ∙ sym (get_or-either_bytes (laid first k n t) (laid second k n t) j (omega arith)))
   where
-    byte : (j : ℕ) (e : Bool) → cond e (get_or (u (holder k j)) (within k j) 0) (get_or t j 0)
-        ≡ bit_or (cond e (get_or (first (holder k j)) (within k j) 0) (get_or t j 0))
-        (cond e (get_or (second (holder k j)) (within k j) 0) (get_or t j 0))
-    byte j true = each (holder k j) (within k j)
+    byte : (j : ℕ) (e : Bool) → cond e (get_or (u (holder k j)) (place_in_entry k j) 0) (get_or t j 0)
+        ≡ bit_or (cond e (get_or (first (holder k j)) (place_in_entry k j) 0) (get_or t j 0))
+        (cond e (get_or (second (holder k j)) (place_in_entry k j) 0) (get_or t j 0))
+    byte j true = each (holder k j) (place_in_entry k j)
     byte j false = sym (or_self (get_or t j 0))
 
 -- a table of both, where there is one

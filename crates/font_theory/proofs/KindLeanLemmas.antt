@@ -27,9 +27,9 @@ use Rattle.font_variations.specs.Gvar.{front_of, shared_tuples_of}
 use Rattle.font_variations.specs.MadeGvar.{IsForGvar, gvar_bytes}
 use Rattle.font_variations.proofs.LawLemmas.{made_read, parts_fit}
 use Rattle.font_theory.specs.Bytes.{padded}
-use Rattle.font_theory.specs.Content.{Content, Font, IsFont, Wanted, content, everything, font_of, glyph_count}
+use Rattle.font_theory.specs.Content.{Content, Font, IsFont, Wanted, content, everything, glyph_count}
 use Rattle.font_theory.specs.Content.{is_bad_variations_in, is_kept, is_made, is_never_copied, is_never_in_layout}
-use Rattle.font_theory.specs.Content.{metric_count, of_codes, read_back, within}
+use Rattle.font_theory.specs.Content.{metric_count, of_codes, plain_font, read_back, wanted_within}
 use Rattle.font_theory.specs.Cut.{IsCurrent, Writes, cut, our_format}
 use Rattle.font_theory.specs.Cut.Arises.{of_file}
 use Rattle.font_theory.specs.File.{Writing, current_writing, file, glyf_bytes, groups_of_content, outlines_of}
@@ -177,7 +177,7 @@ abbrev pub IsNumbered : Settings → Wanted → Type 0
 IsNumbered s B = ((slot : ℕ) → is_made slot ≡ false → s.partition slot ≡ by_metrics slot) ⊎ ((g : ℕ)
     → B.glyphs g ≡ false)
 
-lean_seen : (X : List ℕ) → tables_by lean_settings X ≡ (font_of X).copied
+lean_seen : (X : List ℕ) → tables_by lean_settings X ≡ (plain_font X).copied
 unfolding lean_settings
 lean_seen X = fun_ext (λ slot. tables_by-plain lean_settings AreSettings-lean (λ _. refl) X slot)
 
@@ -188,11 +188,11 @@ lean_font-as s is X =
     lean_seen X ∙ ap (λ (F : Font). F.copied) (font_of-by s is X) in
     λ i. record {
       copied = tables i;
-      head = (font_of X).head;
-      map = (font_of X).map;
-      outline = (font_of X).outline;
+      head = (plain_font X).head;
+      map = (plain_font X).map;
+      outline = (plain_font X).outline;
       parts = λ _ _. [];
-      there = there_by lean_settings (tables i) (font_of X).outline;
+      there = there_by lean_settings (tables i) (plain_font X).outline;
     }
 
 frames-none : (p : Partition) (c : Tables) (slot : ℕ) → c slot ≡ None → frames p c slot ≡ None
@@ -293,9 +293,9 @@ module _ (s : Settings) (is : AreSettings s) (how : DividesAs s) where
     okF' : IsFont (divided by_metrics (leaned F))
     okF' = IsFont-divided by_metrics IsPartition-metrics _ (IsFont-leaned F ok)
 
-    -- what is wanted of a lean cut within the cut before it
+    -- what is wanted of a lean cut wanted_within the cut before it
     abbrev W : Wanted
-    W = within (divided p F) A B
+    W = wanted_within (divided p F) A B
 
     keeps : is_kept (divided p F) A ≡ is_kept F A
     keeps = is_kept-divided p is.partition F A
@@ -377,10 +377,10 @@ module _ (s : Settings) (is : AreSettings s) (how : DividesAs s) where
         (λ g r. outline_same g (kept_before g r)) (λ g r. parts_same g (kept_before g r))
         (λ g r. lean_there g (kept_before g r))
 
-  -- the lean cut of a cut is that of the font, for what is wanted within the cut
+  -- the lean cut of a cut is that of the font, for what is wanted wanted_within the cut
   pub cut-lean : (X : List ℕ) → fault_by s X ≡ None → (A : Wanted) (Y : List ℕ)
       → Writes (format_by s) (content ((format_by s).font X) A) Y → length Y ≤ MAX_FILE → (B : Wanted) → IsNumbered s B
-      → cut (format_by lean_settings) Y B ≡ cut (format_by lean_settings) X (within ((format_by s).font X) A B)
+      → cut (format_by lean_settings) Y B ≡ cut (format_by lean_settings) X (wanted_within ((format_by s).font X) A B)
   unfolding format_by lean_settings
   cut-lean X accepted A Y w small B by =
       let F : Font = font_by s X in
@@ -389,7 +389,8 @@ module _ (s : Settings) (is : AreSettings s) (how : DividesAs s) where
       ap (λ (G : Font). lean (content (divided by_metrics G) B))
       (lean_font-as s is Y ∙ ap leaned read.1)
       ∙ ap lean (content-lean F (IsFont-by s is X accepted) A B by)
-      ∙ sym (ap (λ (G : Font). lean (content (divided by_metrics G) (within (divided p F) A B))) (lean_font-as s is X))
+      ∙ sym (ap (λ (G : Font). lean (content (divided by_metrics G) (wanted_within (divided p F) A B)))
+      (lean_font-as s is X))
 
 -- what is there to a lean cut is there to each kind that divides metrics, and what is blank to it leads to nothing
 module _ (s : Settings) (is : AreSettings s) (own : (slot : ℕ) → is_made slot ≡ false
@@ -470,7 +471,7 @@ module _ (s : Settings) (is : AreSettings s) (own : (slot : ℕ) → is_made slo
   ]
 
   abbrev V : Wanted
-  V = within D A everything
+  V = wanted_within D A everything
 
   forth : (g : ℕ) → IsKept L V g → IsKept L A g
   forth g (seed h) = elim (is_root-tells L V g h) [
@@ -504,24 +505,24 @@ cut-lean_all s is how own by X accepted A Y w small =
     let F : Font = font_by s X in
     let lean : Content → List ℕ = λ C. file current_writing (undivided_content by_metrics C) in
     cut-lean s is how X accepted A Y w small everything (inl own)
-    ∙ ap (λ (G : Font). lean (content (divided by_metrics G) (within (divided s.partition F) A everything)))
+    ∙ ap (λ (G : Font). lean (content (divided by_metrics G) (wanted_within (divided s.partition F) A everything)))
     (lean_font-as s is X)
     ∙ ap lean (content-everything s is own by F (IsFont-by s is X accepted) refl A)
     ∙ sym (ap (λ (G : Font). lean (content (divided by_metrics G) A)) (lean_font-as s is X))
 
 -- for codes alone, what is there does not count: a lean cut is read of what a plain reader reads
 module _ (X : List ℕ) where
-  lean_tables : (font_of X).copied ≡ tables_by lean_settings X
+  lean_tables : (plain_font X).copied ≡ tables_by lean_settings X
   unfolding lean_settings
   lean_tables = fun_ext (λ slot. sym (tables_by-plain lean_settings AreSettings-lean (λ _. refl) X slot))
 
   -- a plain cut for any codes keeps what a lean one keeps for these codes alone
-  kept_plainly : (A : Wanted) → is_kept (font_of X) A ≡ is_kept (font_by lean_settings X) (of_codes A.codes)
+  kept_plainly : (A : Wanted) → is_kept (plain_font X) A ≡ is_kept (font_by lean_settings X) (of_codes A.codes)
   unfolding is_kept
   kept_plainly A =
-      let roots = is_root-same (font_of X) (font_by lean_settings X) A (of_codes A.codes) refl
+      let roots = is_root-same (plain_font X) (font_by lean_settings X) A (of_codes A.codes) refl
       (λ g. nothing (A.glyphs g)) in
-      λ i. λ g. reached (font_of X).outline (roots i) (glyph_count (lean_tables i)) g
+      λ i. λ g. reached (plain_font X).outline (roots i) (glyph_count (lean_tables i)) g
     where
       nothing : (b : Bool) → (b && false) ≡ false
       nothing true = refl
@@ -529,9 +530,9 @@ module _ (X : List ℕ) where
 
   pub file-plain : (writing : Writing) (codes : ℕ → Bool)
       → file writing (content (font_by lean_settings X) (of_codes codes))
-      ≡ file writing (content (font_of X) (of_codes codes))
+      ≡ file writing (content (plain_font X) (of_codes codes))
   file-plain writing codes = file-same writing _ _ (sym lean_tables) refl refl
-      (ap (λ k. λ g. when (k g) (padded ((font_of X).outline g))) (sym (kept_plainly (of_codes codes))))
+      (ap (λ k. λ g. when (k g) (padded ((plain_font X).outline g))) (sym (kept_plainly (of_codes codes))))
 
   -- a lean cut that is its own cut for codes alone is a full cut too, namely of itself
   pub current-full : IsCurrent (format_by lean_settings) X
@@ -545,13 +546,13 @@ module _ (X : List ℕ) where
       let K : Content = content (divided p F) (of_codes (λ _. true)) in
       let read = reads-by lean_settings law K X (of_file X (of_codes (λ _. true)) form.accepted refl) (inl own)
       (size-accepted X accepted) in
-      let kept : is_kept (font_of X) everything ≡ is_kept (divided p F) (of_codes (λ _. true)) =
+      let kept : is_kept (plain_font X) everything ≡ is_kept (divided p F) (of_codes (λ _. true)) =
       kept_plainly everything ∙ sym (is_kept-divided p law.partition F (of_codes (λ _. true))) in
       record {
         accepted = accepted;
-        written = file-same current_writing (content (font_of X) everything) (undivided_content p K)
+        written = file-same current_writing (content (plain_font X) everything) (undivided_content p K)
             (lean_tables ∙ ap (λ (G : Font). G.copied) read.1) refl refl
-            (ap (λ k. λ g. when (k g) (padded ((font_of X).outline g))) kept)
+            (ap (λ k. λ g. when (k g) (padded ((plain_font X).outline g))) kept)
             ∙ own;
       }
 
@@ -738,26 +739,26 @@ module _ (X : List ℕ) (still : HasNothingVarying X) where
     | inr other ↦ let f = ne_eqb slot GVAR other in parts_of-slot by_metrics by_variations slot (rw f refl) c g
   ]
 
-  seen : (c : Tables) → c GVAR ≡ None → (g : ℕ) → there_by layout_settings c (font_of X).outline g
-      ≡ there_by variable_settings c (font_of X).outline g
+  seen : (c : Tables) → c GVAR ≡ None → (g : ℕ) → there_by layout_settings c (plain_font X).outline g
+      ≡ there_by variable_settings c (plain_font X).outline g
   unfolding there_by layout_settings variable_settings
-  seen c none g = λ i. nat_lt g (glyph_count c) && has_record ((font_of X).outline g) (λ slot. part_same c none slot
+  seen c none g = λ i. nat_lt g (glyph_count c) && has_record ((plain_font X).outline g) (λ slot. part_same c none slot
       g i)
 
-  same_there : (g : ℕ) → there_by layout_settings (tables_by layout_settings X) (font_of X).outline g
-      ≡ there_by variable_settings (tables_by variable_settings X) (font_of X).outline g
+  same_there : (g : ℕ) → there_by layout_settings (tables_by layout_settings X) (plain_font X).outline g
+      ≡ there_by variable_settings (tables_by variable_settings X) (plain_font X).outline g
   unfolding there_by
   same_there g =
       let tables : tables_by layout_settings X ≡ tables_by variable_settings X = fun_ext same_slot in
-      ap (λ (c : Tables). there_by layout_settings c (font_of X).outline g) tables
+      ap (λ (c : Tables). there_by layout_settings c (plain_font X).outline g) tables
       ∙ seen (tables_by variable_settings X) no_gvar g
 
   same_font : font_by layout_settings X ≡ font_by variable_settings X
   same_font = λ i. record {
     copied = λ slot. same_slot slot i;
-    head = (font_of X).head;
-    map = (font_of X).map;
-    outline = (font_of X).outline;
+    head = (plain_font X).head;
+    map = (plain_font X).map;
+    outline = (plain_font X).outline;
     parts = λ _ _. [];
     there = λ g. same_there g i;
   }

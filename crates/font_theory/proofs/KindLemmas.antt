@@ -11,15 +11,15 @@ use Rattle.sfnt_bytes.specs.declared.tag.TheConstants.{GVAR, HHEA, HMTX, POST, S
 use Rattle.font_file.specs.Font.{font_fault}
 use Rattle.font_file.specs.declared.font_error.FontError.{FontError}
 use Rattle.font_file.specs.declared.font_error.FontError.TheVariants.{BadVariations, Directory}
-use Rattle.font_theory.specs.Content.{Content, content, everything, glyph_count, read_back, font_of, is_made}
-use Rattle.font_theory.specs.Content.{is_never_copied}
+use Rattle.font_theory.specs.Content.{Content, content, everything, glyph_count, is_made, is_never_copied, plain_font}
+use Rattle.font_theory.specs.Content.{read_back}
 use Rattle.font_theory.specs.Cut.{IsCut, our_format}
 use Rattle.font_theory.specs.File.{Writing, adjustment_in, bytes_in_slot, current_writing, file, groups_of_content}
 use Rattle.font_theory.specs.File.{outlines_of, writing_of}
-use Rattle.font_theory.specs.Kinds.{AreSettings, Settings, all_undivided, by_metrics, fault_by, font_by, format_by}
-use Rattle.font_theory.specs.Kinds.{full_settings, layout_settings, lean_settings, plain_reading, read_by, settings}
-use Rattle.font_theory.specs.Kinds.{has_record, tables_by, there_by, variable_settings, IsKind, fault_of, font_as}
-use Rattle.font_theory.specs.Kinds.{format_of, spelled_by, divides_tables, partition_of}
+use Rattle.font_theory.specs.Kinds.{AreSettings, IsKind, Settings, all_undivided, by_metrics, divides_tables, fault_by}
+use Rattle.font_theory.specs.Kinds.{fault_of, font_by, font_of, format_by, format_of, full_settings, has_record}
+use Rattle.font_theory.specs.Kinds.{layout_settings, lean_settings, partition_of, plain_reading, read_by, settings}
+use Rattle.font_theory.specs.Kinds.{spelled_by, tables_by, there_by, variable_settings}
 use Rattle.font_theory.specs.Kinds.Reading.{absent, as_it_is, unvarying}
 use Rattle.font_theory.specs.Parted.{metrics, nameless, variations}
 use Rattle.font_theory.specs.Parting.{AlwaysFits, divided, parts_of, undivided, undivided_content}
@@ -108,22 +108,22 @@ settings-are Variable = AreSettings-variable
 
 -- what a plain reader refuses and sees
 module _ (s : Settings) (is : AreSettings s) (plain : (slot : ℕ) → s.reading slot ≡ plain_reading slot) where
-  pub tables_by-plain : (X : List ℕ) (slot : ℕ) → tables_by s X slot ≡ (font_of X).copied slot
+  pub tables_by-plain : (X : List ℕ) (slot : ℕ) → tables_by s X slot ≡ (plain_font X).copied slot
   tables_by-plain X slot =
       elim (cases_Bool (is_made slot)) [
         | inl t ↦ ap (λ r. read_by r slot (table_of X (slot_tag slot))) (plain slot) ∙ rw t refl
         | inr f ↦ tables_by-below s is X slot (leb-false SLOTS slot (or_parts _ _ f).1)
       ]
 
-  pub font_by-plain : s.by_number ≡ false → (X : List ℕ) → font_by s X ≡ font_of X
+  pub font_by-plain : s.by_number ≡ false → (X : List ℕ) → font_by s X ≡ plain_font X
   unfolding there_by
   font_by-plain none X = λ i. record {
     copied = λ slot. tables_by-plain X slot i;
-    head = (font_of X).head;
-    map = (font_of X).map;
-    outline = (font_of X).outline;
+    head = (plain_font X).head;
+    map = (plain_font X).map;
+    outline = (plain_font X).outline;
     parts = λ _ _. [];
-    there = λ g. ap (λ b. b && (nat_lt g (glyph_count (tables_by s X)) && has_record ((font_of X).outline g)
+    there = λ g. ap (λ b. b && (nat_lt g (glyph_count (tables_by s X)) && has_record ((plain_font X).outline g)
         (λ slot. parts_of s.partition (tables_by s X) slot g))) none i;
   }
 
@@ -179,14 +179,14 @@ file-undivided writing K =
     ∙ file-parts writing K (λ _ _. []) K.there
 
 -- full cuts are read and written as a plain reader reads, and as this program writes
-pub plain_font-full : (X : List ℕ) → divided all_undivided (font_by full_settings X) ≡ font_of X
+pub plain_font-full : (X : List ℕ) → divided all_undivided (font_by full_settings X) ≡ plain_font X
 unfolding full_settings
 plain_font-full X =
     (λ i. record {
       copied = λ slot. frames-undivided all_undivided (tables_by full_settings X) slot refl i;
-      head = (font_of X).head;
-      map = (font_of X).map;
-      outline = (font_of X).outline;
+      head = (plain_font X).head;
+      map = (plain_font X).map;
+      outline = (plain_font X).outline;
       parts = parts-path (λ slot g. parts_of-undivided all_undivided (tables_by full_settings X) slot refl g) i;
       there = (font_by full_settings X).there;
     })
@@ -207,7 +207,7 @@ pub lean_fault-is : (X : List ℕ) → fault_by lean_settings X ≡ font_fault X
 unfolding lean_settings
 lean_fault-is = fault_by-plain lean_settings AreSettings-lean (λ slot. refl) refl
 
-pub lean_tables-is : (X : List ℕ) (slot : ℕ) → tables_by lean_settings X slot ≡ (font_of X).copied slot
+pub lean_tables-is : (X : List ℕ) (slot : ℕ) → tables_by lean_settings X slot ≡ (plain_font X).copied slot
 unfolding lean_settings
 lean_tables-is = tables_by-plain lean_settings AreSettings-lean (λ slot. refl)
 
@@ -215,7 +215,7 @@ pub full_fault-is : (X : List ℕ) → fault_by full_settings X ≡ font_fault X
 unfolding full_settings
 full_fault-is = fault_by-plain full_settings AreSettings-full (λ slot. refl) refl
 
-pub full_font-is : (X : List ℕ) → font_by full_settings X ≡ font_of X
+pub full_font-is : (X : List ℕ) → font_by full_settings X ≡ plain_font X
 unfolding full_settings there_by
 full_font-is = font_by-plain full_settings AreSettings-full (λ slot. refl) refl
 
@@ -286,11 +286,11 @@ pub misfit-kind : (kind : Kind) (K : Content) → (format_of kind).misfit K ≡ 
 unfolding format_by
 misfit-kind kind K = misfit-always (partition_of kind) (AlwaysFits-kind kind) K
 
-pub kind_is : (kind : Kind) → IsKind (format_of kind) (fault_of kind) (font_as kind) (spelled_by kind)
+pub kind_is : (kind : Kind) → IsKind (format_of kind) (fault_of kind) (font_of kind) (spelled_by kind)
 kind_is kind = IsKind-by (settings kind) (settings-are kind)
 
 -- a file in cut form is read as what is read back of its content
 pub read_whole : (kind : Kind) (X : List ℕ) → IsCut (format_of kind) X
-    → font_as kind X ≡ read_back (content (font_as kind X) everything)
+    → font_of kind X ≡ read_back (content (font_of kind X) everything)
 read_whole kind X form = read-cut (settings kind) (settings-are kind) X form
     ∙ ap read_back (sym (means-cut (settings kind) (settings-are kind) X form))

@@ -6,20 +6,20 @@ use Rattle.std.proofs.lemmas.Bool.{cases_lt, le-ltb, lt-ltb, ne_eqb}
 use Rattle.sfnt_bytes.specs.Number.{u16_at}
 use Rattle.font_tables.specs.Fields.{i16_at}
 use Rattle.font_tables.specs.Metrics.{advance_width, left_side_bearing, lsb, metric_in, metric_of}
-use Rattle.font_theory.specs.Content.{font_of, metric_count, table_in_slot}
-use Rattle.font_theory.specs.Parted.{entry_at, entry_size}
+use Rattle.font_theory.specs.Content.{metric_count, plain_font, table_in_slot}
+use Rattle.font_theory.specs.Parted.{entry_size, entry_start}
 use Rattle.font_theory.proofs.FontLemmas.{hmtx-slot, metric_count-file}
 use Rattle.sfnt_bytes.specs.declared.tag.TheConstants.{HMTX}
 
-entry-pair : (k g : ℕ) → 0 < k → g + 1 < k → (entry_size k g ≡ 4) × (entry_at k g ≡ 4 * g)
-unfolding entry_size entry_at
+entry-pair : (k g : ℕ) → 0 < k → g + 1 < k → (entry_size k g ≡ 4) × (entry_start k g ≡ 4 * g)
+unfolding entry_size entry_start
 entry-pair k g some pair =
     let t = lt-ltb (g + 1) k pair in
     let ne : nat_eq k 0 ≡ false = ne_eqb k 0 (λ e. omega arith) in
     rw (ne, t) (refl, refl)
 
-entry-bearing : (k g : ℕ) → 0 < k → k ≤ g + 1 → (entry_size k g ≡ 2) × (entry_at k g ≡ 2 * (k + g))
-unfolding entry_size entry_at
+entry-bearing : (k g : ℕ) → 0 < k → k ≤ g + 1 → (entry_size k g ≡ 2) × (entry_start k g ≡ 2 * (k + g))
+unfolding entry_size entry_start
 entry-bearing k g some late =
     let f = le-ltb (g + 1) k late in
     let ne : nat_eq k 0 ≡ false = ne_eqb k 0 (λ e. omega arith) in
@@ -57,10 +57,10 @@ module _ (t t' : List ℕ) where
   unfolding left_side_bearing
   bearing-same k g e = e
 
-  module _ (k g : ℕ) (some : 0 < k) (bytes : (i : ℕ) → i < entry_size k g → get_or t' (entry_at k g + i) 0
-      ≡ get_or t (entry_at k g + i) 0)
+  module _ (k g : ℕ) (some : 0 < k) (bytes : (i : ℕ) → i < entry_size k g → get_or t' (entry_start k g + i) 0
+      ≡ get_or t (entry_start k g + i) 0)
       (last : (e : ℕ) → e < 2 → get_or t' (4 * (k - 1) + e) 0 ≡ get_or t (4 * (k - 1) + e) 0) where
-    own_byte : (j i : ℕ) → i < entry_size k g → entry_at k g + i ≡ j → get_or t' j 0 ≡ get_or t j 0
+    own_byte : (j i : ℕ) → i < entry_size k g → entry_start k g + i ≡ j → get_or t' j 0 ≡ get_or t j 0
     own_byte j i low e = ap (λ (x : ℕ). get_or t' x 0) (sym e) ∙ bytes i low ∙ ap (λ (x : ℕ). get_or t x 0) e
 
     last_byte : (j e : ℕ) → e < 2 → 4 * (k - 1) + e ≡ j → get_or t' j 0 ≡ get_or t j 0
@@ -106,7 +106,8 @@ module _ (t t' : List ℕ) where
         ]
 
 -- the metric of a glyph of a file, in the words of its tables
-pub metric_of-tables : (file : List ℕ) (g : ℕ) → metric_of file g ≡ metric_in (table_in_slot (font_of file).copied HMTX)
-    (metric_count (font_of file).copied) g
+pub metric_of-tables : (file : List ℕ) (g : ℕ) → metric_of file g
+    ≡ metric_in (table_in_slot (plain_font file).copied HMTX)
+    (metric_count (plain_font file).copied) g
 unfolding metric_of
 metric_of-tables file g = λ i. metric_in (sym (hmtx-slot file) i) (sym (metric_count-file file) i) g

@@ -16,8 +16,8 @@ use Rattle.font_variations.proofs.LawLemmas.{made_read, parts_accepted, parts_fi
 use Rattle.font_theory.specs.Bytes.{bytes32}
 use Rattle.font_theory.specs.Content.{glyph_count, table_in_slot}
 use Rattle.font_theory.specs.Kinds.{all_undivided, by_metrics, by_variations}
-use Rattle.font_theory.specs.Parted.{bare, entry_at, gvar_with, laid, metric_bytes, metrics, nameless}
-use Rattle.font_theory.specs.Parted.{pairs_of, thin_post, variations}
+use Rattle.font_theory.specs.Parted.{bare, entry_start, gvar_with, laid, metric_bytes, metrics, nameless, pairs_of}
+use Rattle.font_theory.specs.Parted.{thin_post, variations}
 use Rattle.font_theory.specs.Parting.{AlwaysFits, IsParting, IsPartition, Parting, Tables, is_bad_at, may_divide}
 use Rattle.font_theory.specs.Parting.{undivided}
 use Rattle.font_theory.proofs.EntryLemmas.{AreThere, entry_size-four, four, four-same, four-zero, get_or-four}
@@ -131,7 +131,7 @@ four-bare k g t =
     let few = entry_size-four k g in
     get_or-bare (metric_bytes k t g) i (omega arith)
     ∙ ap (λ (l : List ℕ). get_or l i 0) (metric_bytes-is k t g)
-    ∙ get_or-four k g (λ j. get_or t (entry_at k g + j) 0) i low)
+    ∙ get_or-four k g (λ j. get_or t (entry_start k g + j) 0) i low)
     ∙ sym (metric_bytes-is k t g)
 
 -- a table with the bytes of glyphs is made anew as the table is that it is made of

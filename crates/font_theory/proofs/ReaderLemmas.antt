@@ -19,9 +19,8 @@ use Rattle.font_file.specs.Font.{font_fault, map_of}
 use Rattle.font_file.specs.declared.font_error.FontError.{FontError}
 use Rattle.font_file.specs.declared.font_error.FontError.TheVariants.{Directory}
 use Rattle.font_theory.specs.Bytes.{padded}
-use Rattle.font_theory.specs.Content.{IsFont, Wanted, content, font_of, glyph_count}
-use Rattle.font_theory.specs.Content.{is_bad_variations_in, is_kept, is_made, is_never_copied, is_root}
-use Rattle.font_theory.specs.Content.{metric_count, read_back, table_in_slot}
+use Rattle.font_theory.specs.Content.{IsFont, Wanted, content, glyph_count, is_bad_variations_in, is_kept, is_made}
+use Rattle.font_theory.specs.Content.{is_never_copied, is_root, metric_count, plain_font, read_back, table_in_slot}
 use Rattle.font_theory.specs.Kinds.{without_layout}
 use Rattle.font_theory.proofs.ContentLemmas.{IsKept-number, IsKept-wanted, read_back-reached}
 use Rattle.font_theory.proofs.FileWantedLemmas.{Reach-file, Reach-font, outline-file, roots-font}
@@ -61,18 +60,18 @@ module _ (file : List ℕ) (lines : List (Option FontError)) where
       go (Some x) e r = size-refused file error (e ∙ r) other
 
 module _ (file : List ℕ) (c : Tables) (there : ℕ → Bool) (below : (slot : ℕ) → slot < SLOTS
-    → c slot ≡ (font_of file).copied slot) where
-  table-seen : (slot : ℕ) → slot < SLOTS → table_in_slot c slot ≡ table_in_slot (font_of file).copied slot
+    → c slot ≡ (plain_font file).copied slot) where
+  table-seen : (slot : ℕ) → slot < SLOTS → table_in_slot c slot ≡ table_in_slot (plain_font file).copied slot
   table-seen slot low = ap (λ (o : Option (List ℕ)). unwrap_or o []) (below slot low)
 
-  hmtx-seen : table_in_slot c HMTX ≡ table_in_slot (font_of file).copied HMTX
+  hmtx-seen : table_in_slot c HMTX ≡ table_in_slot (plain_font file).copied HMTX
   hmtx-seen = table-seen HMTX (omega arith)
 
-  pub glyph_count-seen : glyph_count c ≡ glyph_count (font_of file).copied
+  pub glyph_count-seen : glyph_count c ≡ glyph_count (plain_font file).copied
   unfolding glyph_count
   glyph_count-seen = ap num_glyphs (table-seen MAXP (omega arith))
 
-  metric_count-seen : metric_count c ≡ metric_count (font_of file).copied
+  metric_count-seen : metric_count c ≡ metric_count (plain_font file).copied
   unfolding metric_count
   metric_count-seen = ap number_of_h_metrics (table-seen HHEA (omega arith))
 
@@ -92,9 +91,9 @@ module _ (file : List ℕ) (c : Tables) (there : ℕ → Bool) (below : (slot : 
       let ok = IsFont-accepted file accepted in
       let n = glyph_count-seen in
       record {
-        mapped_below = λ x. subst (λ (k : ℕ). (font_of file).map x < k) (sym n) (ok.mapped_below x);
+        mapped_below = λ x. subst (λ (k : ℕ). (plain_font file).map x < k) (sym n) (ok.mapped_below x);
         mapped_codes = ok.mapped_codes;
-        records = λ g. subst (λ (k : ℕ). IsRecord k ((font_of file).outline g)) (sym n) (ok.records g);
+        records = λ g. subst (λ (k : ℕ). IsRecord k ((plain_font file).outline g)) (sym n) (ok.records g);
         slots = slots;
         unparted = λ _ _ _. refl;
         there_below = low;
@@ -107,17 +106,17 @@ module _ (file : List ℕ) (c : Tables) (there : ℕ → Bool) (below : (slot : 
       }
 
   -- of which a plain reader sees all but the tables of layout and of variations
-  pub font_of-seen : font_of file ≡ without_layout (seen file c there)
+  pub font_of-seen : plain_font file ≡ without_layout (seen file c there)
   font_of-seen = λ i. record {
     copied = λ slot. go slot i;
-    head = (font_of file).head;
-    map = (font_of file).map;
-    outline = (font_of file).outline;
+    head = (plain_font file).head;
+    map = (plain_font file).map;
+    outline = (plain_font file).outline;
     parts = λ _ _. [];
     there = λ _. false;
   }
     where
-      go : (slot : ℕ) → (font_of file).copied slot ≡ cond (is_made slot) None (c slot)
+      go : (slot : ℕ) → (plain_font file).copied slot ≡ cond (is_made slot) None (c slot)
       go slot =
           elim (cases_Bool (is_made slot)) [
             | inl t ↦ rw t refl
@@ -140,16 +139,16 @@ module _ (file : List ℕ) (c : Tables) (there : ℕ → Bool) (below : (slot : 
         (λ r. (Reach-font file accepted roots low_roots g r).0) (is_kept-decides (seen file c there) wanted ok g)
 
     -- and no less than a plain cut keeps
-    pub kept-plain : (g : ℕ) → is_kept (font_of file) wanted g ≡ true → is_kept (seen file c there) wanted g ≡ true
+    pub kept-plain : (g : ℕ) → is_kept (plain_font file) wanted g ≡ true → is_kept (seen file c there) wanted g ≡ true
     kept-plain g h =
-        let r = (is_kept-decides (font_of file) wanted (IsFont-accepted file accepted) g).0 h in
+        let r = (is_kept-decides (plain_font file) wanted (IsFont-accepted file accepted) g).0 h in
         (is_kept-decides (seen file c there) wanted ok g).1
         (Reach-along _ _ _ _ (λ x e. seeds-roots (seen file c there) wanted ok x (subst (λ (p : ℕ → Bool). p x ≡ true)
         (roots-font file wanted) e)) (λ _ _ _ p. p) g r)
 
     -- the outline of what components lead to from a kept glyph
     pub outline-from : (r g : ℕ) → r < glyph_count_of file
-        → ((x : ℕ) → Reach (font_of file).outline (nat_eq r) x → IsKept (seen file c there) wanted x)
+        → ((x : ℕ) → Reach (plain_font file).outline (nat_eq r) x → IsKept (seen file c there) wanted x)
         → Reach (outline_of file) (nat_eq r) g
         → (g < glyph_count_of file)
         × ((read_back (content (seen file c there) wanted)).outline g ≡ padded (outline_of file g))

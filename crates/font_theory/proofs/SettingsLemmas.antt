@@ -15,9 +15,8 @@ use Rattle.sfnt_bytes.proofs.LineLemmas.{first_of_lines-none_at, when-none}
 use Rattle.font_file.specs.Font.{font_fault}
 use Rattle.font_file.specs.declared.font_error.FontError.{FontError}
 use Rattle.font_file.specs.declared.font_error.FontError.TheVariants.{BadVariations, Directory}
-use Rattle.font_theory.specs.Content.{Content, Font, IsClosedContent, IsFont, Wanted, content, everything, font_of}
-use Rattle.font_theory.specs.Content.{glyph_count}
-use Rattle.font_theory.specs.Content.{is_bad_variations_in, is_kept, is_made, is_never_copied, read_back}
+use Rattle.font_theory.specs.Content.{Content, Font, IsClosedContent, IsFont, Wanted, content, everything, glyph_count}
+use Rattle.font_theory.specs.Content.{is_bad_variations_in, is_kept, is_made, is_never_copied, plain_font, read_back}
 use Rattle.font_theory.specs.Cut.{Arises, IsCut, IsFormat, Writes, content_of_all}
 use Rattle.font_theory.specs.Cut.Arises.{of_file, of_two}
 use Rattle.font_theory.specs.File.{IsWriting, Writing, current_profile, current_writing, file, writing_of}
@@ -136,7 +135,7 @@ marked-both s L M agree g l m = go (L.outline g) l
 
 module _ (s : Settings) (is : AreSettings s) where
   -- a table of a plain slot is read as a plain reader reads it
-  pub tables_by-below : (X : List ℕ) (slot : ℕ) → slot < SLOTS → tables_by s X slot ≡ (font_of X).copied slot
+  pub tables_by-below : (X : List ℕ) (slot : ℕ) → slot < SLOTS → tables_by s X slot ≡ (plain_font X).copied slot
   tables_by-below X slot low =
       elim (cases_Bool (is_made slot)) [
         | inl t ↦ ap (λ r. read_by r slot (table_of X (slot_tag slot))) (is.never slot (made-never slot t low))
@@ -145,9 +144,9 @@ module _ (s : Settings) (is : AreSettings s) where
             ∙ rw f (ap (table_of X) (slot_tag-kept slot low))
       ]
 
-  pub count_by : (X : List ℕ) → glyph_count (tables_by s X) ≡ glyph_count (font_of X).copied
+  pub count_by : (X : List ℕ) → glyph_count (tables_by s X) ≡ glyph_count (plain_font X).copied
   count_by X = count-seen X (tables_by s X) (λ _. false) (tables_by-below X)
-      ∙ sym (count-seen X (font_of X).copied (λ _. false) (λ _ _. refl))
+      ∙ sym (count-seen X (plain_font X).copied (λ _. false) (λ _ _. refl))
 
   -- a file that is accepted is a font
   module _ (X : List ℕ) (accepted : fault_by s X ≡ None) where
@@ -161,10 +160,11 @@ module _ (s : Settings) (is : AreSettings s) where
 
     pub IsFont-by : IsFont (font_by s X)
     IsFont-by =
-        IsFont-seen X (tables_by s X) (there_by s (tables_by s X) (font_of X).outline) (tables_by-below X) font_fault-by
+        IsFont-seen X (tables_by s X) (there_by s (tables_by s X) (plain_font X).outline) (tables_by-below X)
+        font_fault-by
         (λ slot never. ap (λ r. read_by r slot (table_of X (slot_tag slot))) (is.never slot never))
         (when-none _ BadVariations (first_of_lines-none_at (lines_by s X) 1 none_refused))
-        (there-low s (tables_by s X) (font_of X).outline)
+        (there-low s (tables_by s X) (plain_font X).outline)
 
   -- what is refused, but for its size, is not too large, and a file that is refused as a font has the same refusal
   pub size-by : (X : List ℕ) (error : FontError) → fault_by s X ≡ Some error → error ≢ Directory FileTooLarge
@@ -234,7 +234,7 @@ module _ (s : Settings) (is : AreSettings s) where
         → font_by s (file writing K) ≡ read_back K
     font_by-file whole there = font_with-file writing K (IsWritable-closed K ok) asked whole
         (tables_by s (file writing K)) tables_by-file
-        (there_by s (tables_by s (file writing K)) (font_of (file writing K)).outline)
+        (there_by s (tables_by s (file writing K)) (plain_font (file writing K)).outline)
         (λ g. (λ i. there_by s (λ slot. tables_by-file slot i)
         (λ x. outline_again writing K (IsWritable-closed K ok) x i) g) ∙ there g)
 

@@ -35,8 +35,8 @@ use Rattle.font_file.specs.Font.{cmap_of, font_fault, is_bad_glyph, is_record}
 use Rattle.font_file.specs.declared.font_error.FontError.TheVariants.{Directory, Mapping, Tables}
 use Rattle.font_file.proofs.FontLemmas.{font_fault_is, glyph_fault}
 use Rattle.font_theory.specs.Bytes.{bytes16, cut_head, padded}
-use Rattle.font_theory.specs.Content.{Content, Font, IsFont, content, font_of, is_kept, is_made, is_root, is_seed}
-use Rattle.font_theory.specs.Content.{of_codes}
+use Rattle.font_theory.specs.Content.{Content, Font, IsFont, content, is_kept, is_made, is_root, is_seed, of_codes}
+use Rattle.font_theory.specs.Content.{plain_font}
 use Rattle.font_theory.specs.WorkedFiles.{of_words}
 use Rattle.font_theory.proofs.ContentLemmas.{nothing_either}
 use Rattle.font_theory.proofs.FontLemmas.{IsFont-accepted}
@@ -86,7 +86,7 @@ abbrev pub small_copied : ℕ → Option (List ℕ)
 small_copied slot = get_or small_tables slot None
 
 abbrev pub font : Font
-font = font_of BASE6
+font = plain_font BASE6
 
 -- nothing refuses it
 directory_fine : directory_fault BASE6 ≡ None

@@ -6,7 +6,7 @@ use Rattle.std.proofs.Common.{subst}
 use Rattle.std.proofs.lemmas.Bool.{or_cases, or_left, or_right}
 use Rattle.font_theory.specs.Cut.{Format, IsCurrent, IsCut, IsFormat, Under, cut, joined, content_of_all, misfit_of}
 use Rattle.font_theory.specs.Agreement.{Agree, both}
-use Rattle.font_theory.specs.Content.{Content, Wanted, either}
+use Rattle.font_theory.specs.Content.{Content, Wanted, either_wanted}
 use Rattle.font_theory.specs.Tree.{Differs, IsSmall, JoinTree, Overflows, Takes, Value, cuts, union_in}
 use Rattle.font_theory.specs.Tree.JoinTree.{leaf, node}
 use Rattle.font_theory.proofs.CutLemmas.{Agree-under, CanJoin-cuts, CanJoin-under, IsClosed-whole, IsCurrent-joined}
@@ -190,7 +190,8 @@ module _ (R : Format) (law : IsFormat R) where
       ]
 
 -- the union of a tree has what some set in it has, seen through any test that sees both in a union
-module _ (has : Wanted → ℕ → Bool) (sees : (V W : Wanted) (c : ℕ) → has (either V W) c ≡ (has V c || has W c)) where
+module _ (has : Wanted → ℕ → Bool)
+    (sees : (V W : Wanted) (c : ℕ) → has (either_wanted V W) c ≡ (has V c || has W c)) where
   union_in-tells : (t : JoinTree Wanted) (c : ℕ) → has (union_in t) c ≡ true
       → (A : Wanted) × Takes t A × (has A c ≡ true)
   union_in-tells (leaf A) c h = (A, refl, h)

@@ -17,10 +17,9 @@ use Rattle.font_theory.specs.Bytes.{padded}
 use Rattle.font_theory.specs.Content.{Content, Font, IsFont, Wanted, content, glyph_count, is_kept, metric_count}
 use Rattle.font_theory.specs.Content.{table_in_slot}
 use Rattle.font_theory.specs.Kinds.{by_metrics, by_variations, kept_data, reduced}
-use Rattle.font_theory.specs.Parted.{bare, cleared, entry_at, entry_size, gvar_with, holder, is_entry, laid}
-use Rattle.font_theory.specs.Parted.{metric_bytes}
-use Rattle.font_theory.specs.Parted.{metrics, metrics_at, nameless, pairs_in, pairs_of, thin_post, variation_data}
-use Rattle.font_theory.specs.Parted.{variations, within}
+use Rattle.font_theory.specs.Parted.{bare, cleared, entry_size, entry_start, gvar_with, holder, is_entry, laid}
+use Rattle.font_theory.specs.Parted.{metric_bytes, metrics, metrics_at, nameless, pairs_in, pairs_of, place_in_entry}
+use Rattle.font_theory.specs.Parted.{thin_post, variation_data, variations}
 use Rattle.font_theory.specs.Parting.{IsPartition, Parting, Partition, Tables, context, divided, frames, parts_of}
 use Rattle.font_theory.specs.Parting.{undivided}
 use Rattle.font_theory.proofs.ContentLemmas.{IsFont-read_back, nothing_either}
@@ -49,18 +48,18 @@ module _ (keeps : ℕ → Bool) (k n : ℕ) (t : List ℕ) (there : AreThere k n
   abbrev bytes : ℕ → List ℕ
   bytes g = cond (keeps g) (bare (metric_bytes k t g)) []
 
-  kept_byte : (g w : ℕ) → w < entry_size k g → get_or (bare (metric_bytes k t g)) w 0 ≡ get_or t (entry_at k g + w) 0
+  kept_byte : (g w : ℕ) → w < entry_size k g → get_or (bare (metric_bytes k t g)) w 0 ≡ get_or t (entry_start k g + w) 0
   kept_byte g w small =
       let few = entry_size-four k g in
       get_or-bare (metric_bytes k t g) w (omega arith)
       ∙ ap (λ (l : List ℕ). get_or l w 0) (metric_bytes-is k t g)
-      ∙ get_or-four k g (λ i. get_or t (entry_at k g + i) 0) w small
+      ∙ get_or-four k g (λ i. get_or t (entry_start k g + i) 0) w small
 
-  at_byte : (j : ℕ) → cond (is_entry k n j) (get_or (bytes (holder k j)) (within k j) 0) (get_or t j 0)
+  at_byte : (j : ℕ) → cond (is_entry k n j) (get_or (bytes (holder k j)) (place_in_entry k j) 0) (get_or t j 0)
       ≡ cond (is_entry k n j && not (keeps (holder k j))) 0 (get_or t j 0)
   at_byte j =
       let g = holder k j in
-      let w = within k j in
+      let w = place_in_entry k j in
       let old : ℕ = get_or t j 0 in
       let own : List ℕ = bare (metric_bytes k t g) in
       elim (cases_Bool (is_entry k n j)) [
@@ -86,15 +85,15 @@ module _ (keeps : ℕ → Bool) (k n : ℕ) (t : List ℕ) (there : AreThere k n
 
   -- they leave the bytes of each kept glyph, and the last advance
   pub byte-cleared : (g i : ℕ) → g < n → keeps g ≡ true → i < entry_size k g
-      → get_or (cleared keeps k n t) (entry_at k g + i) 0 ≡ get_or t (entry_at k g + i) 0
+      → get_or (cleared keeps k n t) (entry_start k g + i) 0 ≡ get_or t (entry_start k g + i) 0
   byte-cleared g i low on small =
       let some = entry_size-some k g i small in
       let b = is_byte_of k n g i some (there.few some) low small in
       let room = there.room some in
       let inside = b.inside in
-      get_or-cleared keeps k n t (entry_at k g + i) (omega arith)
-      ∙ (λ p. cond (b.is_entry p && not (keeps (b.holder p))) 0 (get_or t (entry_at k g + i) 0))
-      ∙ ap (λ x. cond (not x) 0 (get_or t (entry_at k g + i) 0)) on
+      get_or-cleared keeps k n t (entry_start k g + i) (omega arith)
+      ∙ (λ p. cond (b.is_entry p && not (keeps (b.holder p))) 0 (get_or t (entry_start k g + i) 0))
+      ∙ ap (λ x. cond (not x) 0 (get_or t (entry_start k g + i) 0)) on
 
   -- the last pair's advance is of no glyph alone
   last_not : (e : ℕ) → 0 < k → e < 2 → is_entry k n (4 * (k - 1) + e) ≡ false

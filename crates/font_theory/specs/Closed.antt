@@ -9,15 +9,11 @@ use Rattle.font_glyph.specs.Reach.{reached}
 use Rattle.font_glyph.specs.declared.linked.TheConstants as numbers
 use Rattle.font_theory.specs.Bytes.{padded}
 use Rattle.font_theory.specs.Content.{Content, Font, Wanted, glyph_count, is_seed, table_in_slot}
-use Rattle.font_theory.specs.Links.{is_bad_layout, links}
-
--- the links of a glyph, none where there is no `GSUB`
-unfoldable pub links_in : (ℕ → Option (List ℕ)) → ℕ → List ℕ
-links_in copied g = links (table_in_slot copied GSUB) g
+use Rattle.font_theory.specs.Links.{is_unreadable_gsub, links}
 
 -- `GSUB` cannot be read: then there is no closure, as there are cuts none the less
 unfoldable pub is_bad_layout_in : (ℕ → Option (List ℕ)) → Bool
-is_bad_layout_in copied = is_bad_layout (table_in_slot copied GSUB)
+is_bad_layout_in copied = is_unreadable_gsub (table_in_slot copied GSUB)
 
 -- how many numbers a table may name glyphs by: 0 to 0xFFFF (OpenType 1.9, Data Types, uint16)
 unfoldable pub NUMBERS : ℕ

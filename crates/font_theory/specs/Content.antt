@@ -90,9 +90,9 @@ everything = record { codes = λ _. true; glyphs = λ _. true }
 abbrev pub of_codes : (ℕ → Bool) → Wanted
 of_codes codes = record { codes = codes; glyphs = λ _. false }
 
--- what either of two wants
-abbrev pub either : Wanted → Wanted → Wanted
-either V W = record { codes = λ c. V.codes c || W.codes c; glyphs = λ g. V.glyphs g || W.glyphs g }
+-- what either_wanted of two wants
+abbrev pub either_wanted : Wanted → Wanted → Wanted
+either_wanted V W = record { codes = λ c. V.codes c || W.codes c; glyphs = λ g. V.glyphs g || W.glyphs g }
 
 -- .notdef, or the glyph of a mapped code
 unfoldable pub is_seed : (ℕ → ℕ) → ℕ → Bool
@@ -117,9 +117,9 @@ content F wanted = record {
   there = λ g. is_kept F wanted g && F.there g;
 }
 
--- what is wanted within what a cut keeps: the codes of both, and of the glyphs those that it keeps
-abbrev pub within : Font → Wanted → Wanted → Wanted
-within F V W = record { codes = λ c. V.codes c && W.codes c; glyphs = λ g. is_kept F V g && W.glyphs g }
+-- what is wanted wanted_within what a cut keeps: the codes of both, and of the glyphs those that it keeps
+abbrev pub wanted_within : Font → Wanted → Wanted → Wanted
+wanted_within F V W = record { codes = λ c. V.codes c && W.codes c; glyphs = λ g. is_kept F V g && W.glyphs g }
 
 -- what is read of the file of a content
 abbrev pub read_back : Content → Font
@@ -133,8 +133,8 @@ read_back K = record {
 }
 
 -- what is read of a file
-abbrev pub font_of : List ℕ → Font
-font_of file = record {
+abbrev pub plain_font : List ℕ → Font
+plain_font file = record {
   copied = λ slot. if is_made slot then None else table_of file (kept_tag slot);
   head = cut_head (head_of file);
   map = map_of file;

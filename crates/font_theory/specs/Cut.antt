@@ -7,11 +7,11 @@ use Rattle.codes.specs.CharacterMap.{is_mapped}
 use Rattle.font_file.specs.Font.{font_fault}
 use Rattle.font_file.specs.declared.font_error.FontError.{FontError}
 use Rattle.font_file.specs.declared.font_error.FontError.TheVariants.{Directory}
-use Rattle.font_theory.specs.Content.{Content, Font, IsFont, Wanted, content, everything, font_of, read_back}
+use Rattle.font_theory.specs.Content.{Content, Font, IsFont, Wanted, content, everything, plain_font, read_back}
 use Rattle.font_theory.specs.File.{Writing, current_writing, file, writing_of}
 use Rattle.font_theory.specs.Agreement.{Agree, both}
 use Rattle.font_theory.specs.declared.Profile.TheVariants.{First}
-pub use Rattle.font_theory.specs.Content.{either}
+pub use Rattle.font_theory.specs.Content.{either_wanted}
 
 -- a reader and a writer of files
 pub record Format : Type 0 where
@@ -114,8 +114,8 @@ pub record CanJoin (R : Format) (X Y : List ℕ) : Type 0 where
 
 -- the reader of this program, a form that is written, and one that is read as a cut too
 abbrev pub format_with : Writing → Writing → Format
-format_with new old =
-    record { fault = font_fault; font = font_of; file = file new; old = file old; misfit = λ _. None; limit = MAX_FILE }
+format_with w v =
+    record { fault = font_fault; font = plain_font; file = file w; old = file v; misfit = λ _. None; limit = MAX_FILE }
 
 -- the reader and the writer of this program, which reads cuts of the first profile too
 unfoldable pub our_format : Format

@@ -17,9 +17,8 @@ use Rattle.font_file.specs.Font.{font_fault}
 use Rattle.font_file.specs.declared.font_error.FontError.{FontError}
 use Rattle.font_file.specs.declared.font_error.FontError.TheVariants.{BadVariations, Directory}
 use Rattle.font_theory.specs.Bytes.{padded}
-use Rattle.font_theory.specs.Content.{Content, Font, Wanted, content, everything, font_of, glyph_count}
-use Rattle.font_theory.specs.Content.{is_bad_variations_in, is_kept, is_made, is_never_copied, is_never_in_layout}
-use Rattle.font_theory.specs.Content.{table_in_slot}
+use Rattle.font_theory.specs.Content.{Content, Font, Wanted, content, everything, glyph_count, is_bad_variations_in}
+use Rattle.font_theory.specs.Content.{is_kept, is_made, is_never_copied, is_never_in_layout, plain_font, table_in_slot}
 use Rattle.font_theory.specs.Cut.{Format, IsCut, IsFormat, content_of_all}
 use Rattle.font_theory.specs.File.{current_profile, current_writing, file, writing_of}
 use Rattle.font_theory.specs.Links.{fixed}
@@ -70,11 +69,11 @@ there_by s copied outline g =
 abbrev pub font_by : Settings → List ℕ → Font
 font_by s file = record {
   copied = tables_by s file;
-  head = (font_of file).head;
-  map = (font_of file).map;
-  outline = (font_of file).outline;
+  head = (plain_font file).head;
+  map = (plain_font file).map;
+  outline = (plain_font file).outline;
   parts = λ _ _. [];
-  there = there_by s (tables_by s file) (font_of file).outline;
+  there = there_by s (tables_by s file) (plain_font file).outline;
 }
 
 -- the refusals of the tables beside those of a font, where `find` gives the least tag, as the tags are ascending
@@ -178,16 +177,16 @@ abbrev pub fault_of : Kind → List ℕ → Option FontError
 fault_of kind = fault_by (settings kind)
 
 -- the tables that a file has for cuts of a kind, by slot
-abbrev pub tables_as : Kind → List ℕ → Tables
-tables_as kind = tables_by (settings kind)
+abbrev pub tables_of : Kind → List ℕ → Tables
+tables_of kind = tables_by (settings kind)
 
 -- the font that an accepted file means to cuts of a kind
-abbrev pub font_as : Kind → List ℕ → Font
-font_as kind = font_by (settings kind)
+abbrev pub font_of : Kind → List ℕ → Font
+font_of kind = font_by (settings kind)
 
 -- the bytes of `GSUB` as cuts of a kind read it, none where there is no such table
-abbrev pub gsub_as : Kind → List ℕ → List ℕ
-gsub_as kind file = table_in_slot (tables_as kind file) GSUB
+abbrev pub gsub_bytes : Kind → List ℕ → List ℕ
+gsub_bytes kind file = table_in_slot (tables_of kind file) GSUB
 
 -- how a kind divides tables
 abbrev pub partition_of : Kind → Partition

@@ -6,5 +6,5 @@ unfoldable pub use Rattle.font_layout.specs.Cleaning.{fixed}
 unfoldable pub use Rattle.font_layout.specs.Layout.{links}
 
 -- `GSUB` cannot be read: an empty one, or none, has no links
-unfoldable pub is_bad_layout : List ℕ → Bool
-is_bad_layout gsub = nat_lt 0 (length gsub) && is_bad_table gsub
+unfoldable pub is_unreadable_gsub : List ℕ → Bool
+is_unreadable_gsub gsub = nat_lt 0 (length gsub) && is_bad_table gsub

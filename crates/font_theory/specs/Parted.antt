@@ -27,8 +27,8 @@ unfoldable pub entry_size : ℕ → ℕ → ℕ
 entry_size k g = if nat_eq k 0 then 0 else if nat_lt (g + 1) k then 4 else 2
 
 -- the place of these bytes (OpenType 1.9, hmtx; vmtx)
-unfoldable pub entry_at : ℕ → ℕ → ℕ
-entry_at k g = if nat_lt (g + 1) k then 4 * g else 2 * (k + g)
+unfoldable pub entry_start : ℕ → ℕ → ℕ
+entry_start k g = if nat_lt (g + 1) k then 4 * g else 2 * (k + g)
 
 -- byte j of such a table for n glyphs is of one glyph alone: it is none of the last advance, nor after the
 -- bearings
@@ -41,13 +41,13 @@ unfoldable pub holder : ℕ → ℕ → ℕ
 holder k j = if nat_lt (j + 4) (4 * k) then j / 4 else (j - 2 * k) / 2
 
 -- the place of byte j among the bytes of that glyph
-unfoldable pub within : ℕ → ℕ → ℕ
-within k j = if nat_lt (j + 4) (4 * k) then j % 4 else j % 2
+unfoldable pub place_in_entry : ℕ → ℕ → ℕ
+place_in_entry k j = if nat_lt (j + 4) (4 * k) then j % 4 else j % 2
 
 -- the bytes of glyph g alone, filled with zeros to four
 unfoldable pub metric_bytes : ℕ → List ℕ → ℕ → List ℕ
 metric_bytes k table g =
-    map (λ i. if nat_lt i (entry_size k g) then slice_index table (entry_at k g + i) else 0)
+    map (λ i. if nat_lt i (entry_size k g) then slice_index table (entry_start k g + i) else 0)
     (range_with_len 0 4)
 
 -- none where all are 0
@@ -57,7 +57,7 @@ bare bytes = if bytes_eq bytes (replicate 4 0) then [] else bytes
 -- a table with the bytes of glyphs; with 0 where a glyph has none
 unfoldable pub laid : (ℕ → List ℕ) → ℕ → ℕ → List ℕ → List ℕ
 laid parts k n table =
-    map (λ j. if is_entry k n j then slice_index (parts (holder k j)) (within k j) else slice_index table j)
+    map (λ j. if is_entry k n j then slice_index (parts (holder k j)) (place_in_entry k j) else slice_index table j)
     (range_with_len 0 (length table))
 
 -- a table with zeros for the bytes of each glyph

@@ -2,7 +2,7 @@
 use Rattle.std.specs.Prelude.{◌≡◌, ◌≢◌, ℕ, zero, suc, ◌<◌, ◌≤◌, false, ◌⊎◌, List, [], length, get_or, None}
 use Rattle.font_theory.specs.Cut.{CanJoin, Format, IsCut, cut, joined, content_of_all, misfit_of}
 use Rattle.font_theory.specs.Agreement.{Agree}
-use Rattle.font_theory.specs.Content.{Wanted, either, of_codes}
+use Rattle.font_theory.specs.Content.{Wanted, either_wanted, of_codes}
 
 -- a tree of joins
 pub data JoinTree (A : Type 0) : Type 0 where
@@ -68,9 +68,9 @@ cuts R F (node s t) = node (cuts R F s) (cuts R F t)
 -- what all in a tree want
 abbrev pub union_in : JoinTree Wanted → Wanted
 union_in (leaf A) = A
-union_in (node s t) = either (union_in s) (union_in t)
+union_in (node s t) = either_wanted (union_in s) (union_in t)
 
 -- what the first n of some want
 abbrev pub union_below : (ℕ → Wanted) → ℕ → Wanted
 union_below A zero = of_codes (λ _. false)
-union_below A (suc n) = either (union_below A n) (A n)
+union_below A (suc n) = either_wanted (union_below A n) (A n)

@@ -4,9 +4,9 @@ ghost use Rattle.sfnt_bytes.specs.declared.directory.TheConstants.{MAX_FILE};
 ghost use Rattle.font_glyph.specs.Linked.{Linked};
 ghost use Rattle.font_file.specs.Font.{map_of};
 ghost use Rattle.font_theory.specs.Closed.{NUMBERS, closed, is_start, linked_content};
-ghost use Rattle.font_theory.specs.Content.{CODES, Wanted, either, of_codes};
+ghost use Rattle.font_theory.specs.Content.{CODES, Wanted, either_wanted, of_codes};
 ghost use Rattle.font_theory.specs.Cut.{CanJoin, cut, joined};
-ghost use Rattle.font_theory.specs.Kinds.{fault_of, format_of, gsub_as, settings};
+ghost use Rattle.font_theory.specs.Kinds.{fault_of, format_of, gsub_bytes, settings};
 ghost use Rattle.font_theory.specs.Links.{links};
 ghost use Rattle.font_theory.specs.declared.kinds.Kind.{Kind};
 
@@ -22,7 +22,7 @@ pub fn closed_is()
 /// The closure of what either wants is what either closure wants.
 pub fn closed_of_either()
     ensures { (links : ℕ → List ℕ) (m : ℕ → ℕ) → ((c : ℕ) → CODES ≤ c → m c ≡ 0) → (V W : Wanted)
-        → closed links m (either V W) ≡ either (closed links m V) (closed links m W) }
+        → closed links m (either_wanted V W) ≡ either_wanted (closed links m V) (closed links m W) }
 {}
 
 /// A cut that follows links by itself, as layout and variable cuts of codes once did, is the cut for the closure of the
@@ -38,8 +38,9 @@ pub fn linked_cut_is_cut()
 pub fn closed_on_cut()
     ensures { (kind : Kind) (file : List ℕ) → fault_of kind file ≡ None → (V : Wanted) →
         length (cut (format_of kind) file V) ≤ MAX_FILE → (W : Wanted)
-        → (closed (links (gsub_as kind (cut (format_of kind) file V))) (map_of (cut (format_of kind) file V)) W).glyphs
-        ≡ (closed (links (gsub_as kind file)) (map_of file)
+        → (closed (links (gsub_bytes kind (cut (format_of kind) file V)))
+        (map_of (cut (format_of kind) file V)) W).glyphs
+        ≡ (closed (links (gsub_bytes kind file)) (map_of file)
         (record { codes = λ c. V.codes c && W.codes c; glyphs = W.glyphs })).glyphs }
 {}
 
@@ -52,5 +53,5 @@ pub fn closed_cuts_join()
         (cut (format_of kind) file (closed links (map_of file) W))
         × (joined (format_of kind) (cut (format_of kind) file (closed links (map_of file) V))
         (cut (format_of kind) file (closed links (map_of file) W))
-        ≡ cut (format_of kind) file (closed links (map_of file) (either V W))) }
+        ≡ cut (format_of kind) file (closed links (map_of file) (either_wanted V W))) }
 {}

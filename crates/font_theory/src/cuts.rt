@@ -10,12 +10,12 @@ ghost use Rattle.font_file.specs.Font.{font_fault, map_of};
 ghost use Rattle.font_file.specs.declared.font_error.FontError.{FontError};
 ghost use Rattle.font_file.specs.declared.font_error.FontError.TheVariants.{Directory};
 ghost use Rattle.font_theory.specs.Bytes.{padded};
-ghost use Rattle.font_theory.specs.Content.{Content, Font, IsClosedContent, IsFont, IsPlain, IsWritable, KeepsComponents, Wanted, content, font_of, is_kept, is_root, is_seed, of_codes, read_back, within};
+ghost use Rattle.font_theory.specs.Content.{Content, Font, IsClosedContent, IsFont, IsPlain, IsWritable, KeepsComponents, Wanted, content, plain_font, is_kept, is_root, is_seed, of_codes, read_back, wanted_within};
 ghost use Rattle.font_theory.specs.Cut.{Format, IsCurrent, IsCut, IsFormat, IsOld, Writes, cut, is_current, is_cut, is_old, content_of_all};
 
 /// What an accepted file means is a font.
 pub fn meaning_is_font()
-    ensures { (file : List ℕ) → font_fault file ≡ None → IsFont (font_of file) }
+    ensures { (file : List ℕ) → font_fault file ≡ None → IsFont (plain_font file) }
 {}
 
 /// A file that is accepted, or refused for anything but its size, is not too large.
@@ -45,7 +45,8 @@ pub fn closed_keeps()
 /// The content of a content is that of the font for the codes in both sets, and for the glyphs of the second that the
 /// first keeps. So the content for no more than was wanted is that of the font.
 pub fn cut_of_cut()
-    ensures { (F : Font) (A B : Wanted) → IsFont F → (content (read_back (content F A)) B ≡ content F (within F A B))
+    ensures { (F : Font) (A B : Wanted) → IsFont F →
+        (content (read_back (content F A)) B ≡ content F (wanted_within F A B))
         × (((c : ℕ) → B.codes c ≡ true → A.codes c ≡ true) → ((g : ℕ) → B.glyphs g ≡ true → A.glyphs g ≡ true)
         → content (read_back (content F A)) B ≡ content F B) }
 {}
@@ -88,15 +89,15 @@ pub fn plain_has_no_numbers()
         × ((F : Font) (codes : ℕ → Bool) → is_root F (of_codes codes) ≡ is_seed (restricted codes F.map))
         × ((F : Font) (wanted : Wanted) → IsFont F → ((g : ℕ) → F.there g ≡ false) →
         content F wanted ≡ content F (of_codes wanted.codes))
-        × ((file : List ℕ) → IsPlain (font_of file).copied)
-        × ((file : List ℕ) (g : ℕ) → (font_of file).there g ≡ false) }
+        × ((file : List ℕ) → IsPlain (plain_font file).copied)
+        × ((file : List ℕ) (g : ℕ) → (plain_font file).there g ≡ false) }
 {}
 
 /// What is kept of an accepted file is what its outlines lead to from .notdef and the glyphs of the
 /// wanted codes.
 pub fn kept_is_reached()
     ensures { (file : List ℕ) (wanted : Wanted) → font_fault file ≡ None
-        → (g : ℕ) → is_kept (font_of file) wanted g ≡ true ↔ Reach (outline_of file)
+        → (g : ℕ) → is_kept (plain_font file) wanted g ≡ true ↔ Reach (outline_of file)
         (is_seed (restricted wanted.codes (map_of file))) g }
 {}
 
@@ -104,7 +105,7 @@ pub fn kept_is_reached()
 /// what that glyph leads to has its outline, up to zeros after it.
 pub fn wanted_is_in_file()
     ensures { (file other : List ℕ) (wanted : Wanted) → font_fault file ≡ None →
-        font_of other ≡ read_back (content (font_of file) wanted)
+        plain_font other ≡ read_back (content (plain_font file) wanted)
         → (c : ℕ) → wanted.codes c ≡ true → (map_of other c ≡ map_of file c)
         × ((g : ℕ) → Reach (outline_of file) (nat_eq (map_of file c)) g →
         outline_of other g ≡ padded (outline_of file g)) }
@@ -113,7 +114,7 @@ pub fn wanted_is_in_file()
 /// A file of which a content of another one is read back has the metrics of that one.
 pub fn metrics_are_kept()
     ensures { (file other : List ℕ) (wanted : Wanted) →
-        font_of other ≡ read_back (content (font_of file) wanted) → (g : ℕ) →
+        plain_font other ≡ read_back (content (plain_font file) wanted) → (g : ℕ) →
         metric_of other g ≡ metric_of file g }
 {}
 
@@ -124,7 +125,7 @@ pub fn cut_is_cut()
         Writes R (content (R.font F) A) X → length X ≤ R.limit
         → IsCut R X × (R.font X ≡ read_back (content (R.font F) A))
         × (content_of_all R X ≡ content (R.font F) A)
-        × ((B : Wanted) → cut R X B ≡ cut R F (within (R.font F) A B))
+        × ((B : Wanted) → cut R X B ≡ cut R F (wanted_within (R.font F) A B))
         × ((B : Wanted) → ((c : ℕ) → B.codes c ≡ true → A.codes c ≡ true) →
         ((g : ℕ) → B.glyphs g ≡ true → A.glyphs g ≡ true) → cut R X B ≡ cut R F B) }
 {}

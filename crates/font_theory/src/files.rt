@@ -8,7 +8,7 @@ ghost use Rattle.sfnt_bytes.specs.Findings.{findings_of};
 ghost use Rattle.sfnt_bytes.specs.declared.directory.TheConstants.{MAX_FILE};
 ghost use Rattle.font_file.specs.Font.{font_fault};
 ghost use Rattle.font_theory.specs.Bytes.{padded};
-ghost use Rattle.font_theory.specs.Content.{Content, IsClosedContent, IsPlain, IsWritable, font_of, of_codes, read_back};
+ghost use Rattle.font_theory.specs.Content.{Content, IsClosedContent, IsPlain, IsWritable, plain_font, of_codes, read_back};
 ghost use Rattle.sfnt_bytes.specs.declared.base6.TheConstants.{BASE6};
 ghost use Rattle.font_theory.specs.Cut.{Arises, IsCurrent, IsFormat, IsOld, Writes, cut, format_with, our_format};
 ghost use Rattle.font_theory.specs.File.{Writing, IsWriting, file, writing_of, glyf_bytes, groups_of_content, outlines_of, size_of, size_with, table_in, tables_from};
@@ -19,7 +19,8 @@ ghost use Rattle.font_theory.specs.WorkedFiles.{aacute_file, nothing_file, nothi
 /// What is read of the file of a content is the content.
 pub fn file_means()
     ensures { (writing : Writing) → IsWriting writing → (K : Content) → IsWritable K → IsPlain K.copied
-        → ((slot g : ℕ) → K.parts slot g ≡ []) → ((g : ℕ) → K.there g ≡ false) → font_of (file writing K) ≡ read_back K }
+        → ((slot g : ℕ) → K.parts slot g ≡ []) → ((g : ℕ) → K.there g ≡ false) →
+        plain_font (file writing K) ≡ read_back K }
 {}
 
 /// Of a content without tables of layout, the tables stand slot by slot, with the kept tags.

@@ -4,7 +4,7 @@ ghost use Rattle.std.specs.Prelude.{◌≡◌, ◌≢◌, ℕ, ◌≤◌, ◌↔
 ghost use Rattle.sfnt_bytes.specs.declared.directory.DirError.TheVariants.{FileTooLarge};
 ghost use Rattle.font_file.specs.declared.font_error.FontError.{FontError};
 ghost use Rattle.font_file.specs.declared.font_error.FontError.TheVariants.{Directory};
-ghost use Rattle.font_theory.specs.Content.{Content, Font, IsClosedContent, IsFont, Wanted, content, either};
+ghost use Rattle.font_theory.specs.Content.{Content, Font, IsClosedContent, IsFont, Wanted, content, either_wanted};
 ghost use Rattle.font_theory.specs.Cut.{CanJoin, Format, IsCurrent, IsCut, IsFormat, Under, Writes, cut, is_cut, joined, misfit_of, renewed, content_of_all};
 ghost use Rattle.font_theory.specs.Difference.{difference};
 ghost use Rattle.font_theory.specs.Agreement.{Agree, both};
@@ -12,7 +12,7 @@ ghost use Rattle.font_theory.specs.Agreement.{Agree, both};
 /// Two contents of a font agree, and their union is its content for what either wants.
 pub fn union_of_cuts()
     ensures { (F : Font) (A B : Wanted) → IsFont F → Agree (content F A) (content F B)
-        × (both (content F A) (content F B) ≡ content F (either A B)) }
+        × (both (content F A) (content F B) ≡ content F (either_wanted A B)) }
 {}
 
 /// The union of closed contents that agree is closed.
@@ -54,7 +54,7 @@ pub fn join_of_cuts()
     ensures { (R : Format) → IsFormat R → (F : List ℕ) → R.fault F ≡ None → (A B : Wanted) (X Y : List ℕ)
         → Writes R (content (R.font F) A) X → Writes R (content (R.font F) B) Y → length X ≤ R.limit →
         length Y ≤ R.limit
-        → CanJoin R X Y × (joined R X Y ≡ cut R F (either A B)) }
+        → CanJoin R X Y × (joined R X Y ≡ cut R F (either_wanted A B)) }
 {}
 
 /// A file in cut form can be joined with itself, which gives the file written anew: a current one

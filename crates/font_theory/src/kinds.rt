@@ -19,10 +19,10 @@ ghost use Rattle.font_file.specs.declared.font_error.FontError.{FontError};
 ghost use Rattle.font_file.specs.declared.font_error.FontError.TheVariants.{Directory};
 ghost use Rattle.font_theory.specs.Agreement.{Agree, both};
 ghost use Rattle.font_theory.specs.Bytes.{padded};
-ghost use Rattle.font_theory.specs.Content.{Content, Font, IsClosedContent, IsFont, Wanted, content, either, everything, font_of, glyph_count, is_kept, is_never_copied, is_root, is_seed, of_codes, read_back, within, table_in_slot};
-ghost use Rattle.font_theory.specs.Cut.{Arises, CanJoin, IsCurrent, IsCut, IsFormat, Under, Writes, content_of_all, cut, is_cut, joined, misfit_of, our_format, either};
+ghost use Rattle.font_theory.specs.Content.{Content, Font, IsClosedContent, IsFont, Wanted, content, either_wanted, everything, plain_font, glyph_count, is_kept, is_never_copied, is_root, is_seed, of_codes, read_back, wanted_within, table_in_slot};
+ghost use Rattle.font_theory.specs.Cut.{Arises, CanJoin, IsCurrent, IsCut, IsFormat, Under, Writes, content_of_all, cut, is_cut, joined, misfit_of, our_format, either_wanted};
 ghost use Rattle.font_theory.specs.Difference.{are_different, difference, has_other_part, is_different_glyph};
-ghost use Rattle.font_theory.specs.Kinds.{AgreeBy, AreSettings, HasNothingVarying, IsKind, IsUnionBy, IsWrittenUnion, Settings, by_metrics, by_variations, fault_by, fault_of, font_as, font_by, format_by, format_of, has_record, kept_data, partition_of, reduced, settings, spelled_by, tables_as, without_layout, divides_tables, gsub_as};
+ghost use Rattle.font_theory.specs.Kinds.{AgreeBy, AreSettings, HasNothingVarying, IsKind, IsUnionBy, IsWrittenUnion, Settings, by_metrics, by_variations, fault_by, fault_of, font_of, font_by, format_by, format_of, has_record, kept_data, partition_of, reduced, settings, spelled_by, tables_of, without_layout, divides_tables, gsub_bytes};
 ghost use Rattle.font_theory.specs.Links.{links};
 ghost use Rattle.font_theory.specs.Parted.{cleared, gvar_with, metrics_at, pairs_in, thin_post, variation_data};
 ghost use Rattle.font_theory.specs.Parting.{AlwaysFits, Tables, divided, parts_of, undivided, undivided_content};
@@ -81,15 +81,15 @@ pub fn settings_are_kinds()
 /// Those of each kind are such settings.
 pub fn kinds_are_kinds()
     ensures { (kind : Kind) → AreSettings (settings kind)
-        × IsKind (format_of kind) (fault_of kind) (font_as kind) (spelled_by kind) }
+        × IsKind (format_of kind) (fault_of kind) (font_of kind) (spelled_by kind) }
 {}
 
 /// Full cuts are read and written as a plain reader reads and as this program writes, and lean ones are read of what a
 /// plain reader reads.
 pub fn full_is_plain()
     ensures { (format_of Full ≡ our_format) × ((file : List ℕ) → (fault_of Full file ≡ font_fault file)
-        × (fault_of Lean file ≡ font_fault file) × (font_as Full file ≡ font_of file)
-        × ((slot : ℕ) → tables_as Lean file slot ≡ (font_of file).copied slot)) }
+        × (fault_of Lean file ≡ font_fault file) × (font_of Full file ≡ plain_font file)
+        × ((slot : ℕ) → tables_of Lean file slot ≡ (plain_font file).copied slot)) }
 {}
 
 /// In full cuts glyphs that are wanted by number do not count: what they are, and their bytes, are as codes alone say.
@@ -102,7 +102,7 @@ pub fn full_has_no_numbers()
 /// plain reader sees all but those of layout and of variations.
 pub fn accepted_is_a_font()
     ensures { (kind : Kind) (file : List ℕ) → (fault_of kind file ≡ None → (font_fault file ≡ None)
-        × IsFont (font_as kind file)) × (font_of file ≡ without_layout (font_as kind file)) }
+        × IsFont (font_of kind file)) × (plain_font file ≡ without_layout (font_of kind file)) }
 {}
 
 /// What a cut is written of is the content of the font for the same codes, with the parts of the kept glyphs alone in
@@ -161,17 +161,17 @@ pub fn cut_is_accepted()
         length (cut (format_of kind) file wanted) ≤ MAX_FILE
         → (fault_of kind (cut (format_of kind) file wanted) ≡ None)
         × (findings_of (cut (format_of kind) file wanted) ≡ [])
-        × (font_as kind (cut (format_of kind) file wanted)
-        ≡ read_back (reduced (partition_of kind) (content (font_as kind file) wanted))) }
+        × (font_of kind (cut (format_of kind) file wanted)
+        ≡ read_back (reduced (partition_of kind) (content (font_of kind file) wanted))) }
 {}
 
 /// A cut has each table that the kind sees and does not divide, as it reads it.
 pub fn tables_are_kept()
     ensures { (kind : Kind) (file : List ℕ) (wanted : Wanted) → fault_of kind file ≡ None → (slot : ℕ) →
         is_never_copied slot ≡ false → (table_of (cut (format_of kind) file wanted) (slot_tag slot)
-        ≡ (reduced (partition_of kind) (content (font_as kind file) wanted)).copied slot)
+        ≡ (reduced (partition_of kind) (content (font_of kind file) wanted)).copied slot)
         × (partition_of kind slot ≡ undivided →
-        table_of (cut (format_of kind) file wanted) (slot_tag slot) ≡ tables_as kind file slot) }
+        table_of (cut (format_of kind) file wanted) (slot_tag slot) ≡ tables_of kind file slot) }
 {}
 
 /// What is kept is what the outlines lead to from .notdef, the glyphs of the wanted codes, and the wanted glyphs that
@@ -179,14 +179,17 @@ pub fn tables_are_kept()
 /// than a plain cut keeps for the same codes.
 pub fn kept_of_kind_is_reached()
     ensures { (kind : Kind) (file : List ℕ) (wanted : Wanted) → fault_of kind file ≡ None
-        → ((g : ℕ) → is_kept (font_as kind file) wanted g ≡ true ↔ Reach (outline_of file)
-        (is_root (font_as kind file) wanted) g)
-        × ((g : ℕ) → is_root (font_as kind file) wanted g ≡ true
+        → ((g : ℕ) → is_kept (font_of kind file) wanted g ≡ true ↔ Reach (outline_of file)
+        (is_root (font_of kind file) wanted) g)
+        × ((g : ℕ) → is_root (font_of kind file) wanted g ≡ true
         ↔ (is_seed (restricted wanted.codes (map_of file)) g ≡ true)
-        ⊎ ((wanted.glyphs g ≡ true) × ((font_as kind file).there g ≡ true)))
-        × ((g : ℕ) → (font_as kind file).there g ≡ true ↔ ((settings kind).by_number ≡ true) × (g < glyph_count_of file)
-        × (has_record (outline_of file g) (λ slot. parts_of (partition_of kind) (tables_as kind file) slot g) ≡ true))
-        × ((g : ℕ) → is_kept (font_of file) wanted g ≡ true → is_kept (font_as kind file) wanted g ≡ true) }
+        ⊎ ((wanted.glyphs g ≡ true) × ((font_of kind file).there g ≡ true)))
+        × ((g : ℕ) → (font_of kind file).there g ≡ true ↔ ((settings kind).by_number ≡ true)
+        × (g < glyph_count_of file)
+        × (has_record (outline_of file g)
+        (λ slot. parts_of (partition_of kind) (tables_of kind file) slot g) ≡ true))
+        × ((g : ℕ) → is_kept (plain_font file) wanted g ≡ true →
+        is_kept (font_of kind file) wanted g ≡ true) }
 {}
 
 /// What is written of a content that accepted files come to is closed: a file of it can be written.
@@ -196,7 +199,7 @@ pub fn written_is_closed()
 
 /// What is read of a file in cut form is what is written of its content.
 pub fn file_of_kind_means()
-    ensures { (kind : Kind) (X : List ℕ) → IsCut (format_of kind) X → font_as kind X ≡ read_back
+    ensures { (kind : Kind) (X : List ℕ) → IsCut (format_of kind) X → font_of kind X ≡ read_back
         (spelled_by kind (content_of_all (format_of kind) X)) }
 {}
 
@@ -205,17 +208,17 @@ pub fn file_of_kind_means()
 /// byte for byte; the other glyphs have no parts.
 pub fn wanted_is_in_file_of_kind()
     ensures { (kind : Kind) (file other : List ℕ) (wanted : Wanted) → fault_of kind file ≡ None →
-        font_as kind other ≡ read_back (reduced (partition_of kind) (content (font_as kind file) wanted))
+        font_of kind other ≡ read_back (reduced (partition_of kind) (content (font_of kind file) wanted))
         → ((c : ℕ) → wanted.codes c ≡ true → (map_of other c ≡ map_of file c)
         × ((g : ℕ) → Reach (outline_of file) (nat_eq (map_of file c)) g →
         outline_of other g ≡ padded (outline_of file g)))
-        × ((r : ℕ) → wanted.glyphs r ≡ true → (font_as kind file).there r ≡ true → (g : ℕ) →
+        × ((r : ℕ) → wanted.glyphs r ≡ true → (font_of kind file).there r ≡ true → (g : ℕ) →
         Reach (outline_of file) (nat_eq r) g → outline_of other g ≡ padded (outline_of file g))
-        × ((g : ℕ) → is_kept (font_as kind file) wanted g ≡ true → (metric_of other g ≡ metric_of file g)
-        × ((slot : ℕ) → parts_of (partition_of kind) (tables_as kind other) slot g
-        ≡ parts_of (partition_of kind) (tables_as kind file) slot g))
-        × ((g : ℕ) → is_kept (font_as kind file) wanted g ≡ false → (slot : ℕ) →
-        parts_of (partition_of kind) (tables_as kind other) slot g ≡ []) }
+        × ((g : ℕ) → is_kept (font_of kind file) wanted g ≡ true → (metric_of other g ≡ metric_of file g)
+        × ((slot : ℕ) → parts_of (partition_of kind) (tables_of kind other) slot g
+        ≡ parts_of (partition_of kind) (tables_of kind file) slot g))
+        × ((g : ℕ) → is_kept (font_of kind file) wanted g ≡ false → (slot : ℕ) →
+        parts_of (partition_of kind) (tables_of kind other) slot g ≡ []) }
 {}
 
 /// The contents of two accepted files agree exactly where no frame of a table tells them apart, no code that both map,
@@ -223,7 +226,7 @@ pub fn wanted_is_in_file_of_kind()
 pub fn agreement_is()
     ensures { (kind : Kind) (X Y : List ℕ) → fault_of kind X ≡ None → fault_of kind Y ≡ None
         → Agree (content_of_all (format_of kind) X) (content_of_all (format_of kind) Y)
-        ↔ AgreeBy (partition_of kind) (font_as kind X) (font_as kind Y) }
+        ↔ AgreeBy (partition_of kind) (font_of kind X) (font_of kind Y) }
 {}
 
 /// The same of contents that accepted files come to, as a union holds them that grows file by file.
@@ -253,10 +256,11 @@ pub fn union_is()
 pub fn join_of_kind_is()
     ensures { (kind : Kind) (X Y : List ℕ) → CanJoin (format_of kind) X Y →
         length (joined (format_of kind) X Y) ≤ MAX_FILE
-        → IsUnionBy (partition_of kind) (content (font_as kind X) everything) (content (font_as kind Y) everything)
-        (content (font_as kind (joined (format_of kind) X Y)) everything)
-        × IsWrittenUnion (content (font_as kind X) everything) (content (font_as kind Y) everything)
-        (content (font_as kind (joined (format_of kind) X Y)) everything) }
+        → IsUnionBy (partition_of kind) (content (font_of kind X) everything)
+        (content (font_of kind Y) everything)
+        (content (font_of kind (joined (format_of kind) X Y)) everything)
+        × IsWrittenUnion (content (font_of kind X) everything) (content (font_of kind Y) everything)
+        (content (font_of kind (joined (format_of kind) X Y)) everything) }
 {}
 
 /// Two cuts of a font can be joined, and give its cut for what either wants.
@@ -265,7 +269,7 @@ pub fn join_of_cuts_of_kind()
         length (cut (format_of kind) file A) ≤ MAX_FILE → length (cut (format_of kind) file B) ≤ MAX_FILE
         → CanJoin (format_of kind) (cut (format_of kind) file A) (cut (format_of kind) file B)
         × (joined (format_of kind) (cut (format_of kind) file A) (cut (format_of kind) file B)
-        ≡ cut (format_of kind) file (either A B)) }
+        ≡ cut (format_of kind) file (either_wanted A B)) }
 {}
 
 /// A join of cuts is a cut, above both files, and below each file that is above both.
@@ -315,7 +319,8 @@ pub fn lean_cut_of_cut()
     ensures { (kind : Kind) (file : List ℕ) → fault_of kind file ≡ None → (A : Wanted) (X : List ℕ) →
         Writes (format_of kind) (content ((format_of kind).font file) A) X → length X ≤ MAX_FILE
         → ((B : Wanted) → ((settings kind).by_number ≡ true) ⊎ ((g : ℕ) → B.glyphs g ≡ false)
-        → cut (format_of Lean) X B ≡ cut (format_of Lean) file (within ((format_of kind).font file) A B))
+        → cut (format_of Lean) X B
+        ≡ cut (format_of Lean) file (wanted_within ((format_of kind).font file) A B))
         × ((settings kind).by_number ≡ true → cut (format_of Lean) X everything ≡ cut (format_of Lean) file A) }
 {}
 

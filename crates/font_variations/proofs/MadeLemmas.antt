@@ -8,9 +8,8 @@ use Rattle.sfnt_bytes.specs.Number.{u16_at, u32_at}
 use Rattle.font_tables.specs.Fields.{form_of_format}
 use Rattle.font_tables.specs.Outlines.{outline_in}
 use Rattle.font_tables.specs.declared.loca.LocaForm.TheVariants.{Long}
-use Rattle.font_variations.specs.Gvar.{axis_count, data_array_offset, data_of, flags, front_of}
-use Rattle.font_variations.specs.Gvar.{from_data, from_offsets, glyph_count, gvar_version}
-use Rattle.font_variations.specs.Gvar.{offset_form, shared_tuple_count}
+use Rattle.font_variations.specs.Gvar.{axis_count, data_array_offset, data_of, flags, from_data, from_offsets, front_of}
+use Rattle.font_variations.specs.Gvar.{gvar_glyph_count, gvar_version, offset_form, shared_tuple_count}
 use Rattle.font_variations.specs.Gvar.{shared_tuples_length, shared_tuples_of, shared_tuples_offset}
 use Rattle.font_variations.specs.MadeGvar.{data_at, gvar_bytes, listed_data, offset_bytes}
 use Rattle.font_variations.specs.MadeGvar.{tuples_at, u16_bytes, u32_bytes}
@@ -85,8 +84,8 @@ module _ (front shared : List ℕ) (of_glyph : ℕ → List ℕ) (n : ℕ) (eigh
   unfolding shared_tuples_offset
   shared_tuples_offset-made = u32_of 0 ∙ at_0
 
-  pub glyph_count-made : glyph_count made ≡ n
-  unfolding glyph_count
+  pub glyph_count-made : gvar_glyph_count made ≡ n
+  unfolding gvar_glyph_count
   glyph_count-made = u16_of 4 ∙ at_4
 
   pub flags-made : flags made ≡ 1

@@ -24,8 +24,8 @@ unfoldable pub shared_tuples_offset : List ℕ → ℕ
 shared_tuples_offset gvar = u32_at gvar 8
 
 -- glyphCount
-unfoldable pub glyph_count : List ℕ → ℕ
-glyph_count gvar = u16_at gvar 12
+unfoldable pub gvar_glyph_count : List ℕ → ℕ
+gvar_glyph_count gvar = u16_at gvar 12
 
 -- flags
 unfoldable pub flags : List ℕ → ℕ
@@ -97,7 +97,7 @@ has_other_axes gvar fvar = not (nat_eq (axis_count gvar) (fvar_axis_count (prese
 
 -- glyphCount is not that of the font
 abbrev pub has_other_glyphs : List ℕ → ℕ → Bool
-has_other_glyphs gvar glyphs = not (nat_eq (glyph_count gvar) glyphs)
+has_other_glyphs gvar glyphs = not (nat_eq (gvar_glyph_count gvar) glyphs)
 
 -- flags other than 0 and 1
 abbrev pub has_unknown_flags : List ℕ → Bool

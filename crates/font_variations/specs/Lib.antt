@@ -2,5 +2,4 @@ pub mod Gvar
 pub mod Inside
 pub mod Laws
 pub mod MadeGvar
-pub mod Text
 pub mod WorkedGvar

@@ -1,14 +1,11 @@
 //! What is refused of a `gvar`, and what it has. OpenType 1.9, gvar: Glyph Variations Table.
-ghost use Rattle.std.specs.Prelude.{◌≡◌, drop, ◌+◌, ◌*◌, ◌<◌, ◌≤◌, ◌↔◌, nat_lt, ◌||◌, IfOk, IsOk, Some, false, length};
+ghost use Rattle.std.specs.Prelude.{◌≡◌, drop, ◌+◌, ◌*◌, ◌<◌, ◌≤◌, ◌↔◌, nat_lt, ◌||◌, IfSome, IsSome, Some, false, length};
 ghost use Rattle.std.specs.Option.{option_copied};
 ghost use Rattle.font_variations.specs.Gvar.{IsAccepted, data_array_offset, data_of, end_of_offsets, front_of, has_bad_tuples, has_falling_offset, is_bad_variations, leads_past_end, offset_form, shared_tuples_length, shared_tuples_of, shared_tuples_offset};
 ghost use Rattle.font_variations.specs.Inside.{HasSharedTuples, has_bad_header};
-ghost use Rattle.font_variations.specs.Text.{bad_variations_text};
 
 use font_tables::{LocaForm, has_fall, outline_within, read_offset};
 use sfnt_bytes::{be16, be32};
-use std::error::Error;
-use std::fmt;
 use std::marker::Model;
 
 /// How many bytes the header has, and where the offsets begin.
@@ -20,23 +17,8 @@ const FVAR: usize = 10;
 /// The version 1.0, as one number.
 const VERSION: u32 = 0x0001_0000;
 
-/// The table is cut off, of an unknown version or flags, for other axes than those of `fvar` or another number of
-/// glyphs, or its offsets do not lead in order to what lies within it.
-#[derive(Clone, Copy, Debug, PartialEq, Eq)]
-pub struct BadVariations;
-
-impl fmt::Display for BadVariations {
-    ghost output = { λ _. Some bad_variations_text };
-
-    fn fmt<W: fmt::Write>(&self, f: &mut fmt::Formatter<W>) -> fmt::Result {
-        f.write_str("bad variations")
-    }
-}
-
-impl Error for BadVariations {}
-
 // Returns whether the header is refused. A missing `fvar` is empty.
-#[tactic(auto, unfolding(crate::specs::Inside::has_bad_header, crate::specs::Gvar::gvar_version, crate::specs::Gvar::axis_count, crate::specs::Gvar::fvar_axis_count, crate::specs::Gvar::glyph_count, crate::specs::Gvar::flags))]
+#[tactic(auto, unfolding(crate::specs::Inside::has_bad_header, crate::specs::Gvar::gvar_version, crate::specs::Gvar::axis_count, crate::specs::Gvar::fvar_axis_count, crate::specs::Gvar::gvar_glyph_count, crate::specs::Gvar::flags))]
 fn has_bad_header(gvar: &[u8], fvar: &[u8], glyphs: u16) -> bool
     ensures { result ≡ has_bad_header gvar.now (Some fvar.now) glyphs }
 {
@@ -201,24 +183,18 @@ impl<'a> Model for Variations<'a> {
 
 impl<'a> Variations<'a> {
     /// Opens a `gvar`, of which `axisCount` is compared with that of `fvar`, and `glyphCount` with a number of glyphs.
-    /// It asks for no memory, and passes once over the offsets.
-    ///
-    /// # Errors
-    ///
-    /// [`BadVariations`] where the table is refused.
+    /// Returns none where the table is refused: it is cut off, of an unknown version or flags, for other axes or another
+    /// number of glyphs, or its offsets do not lead in order to what lies within it. It asks for no memory, and passes
+    /// once over the offsets.
     #[tactic(auto, unfolding(crate::specs::Gvar::is_bad_variations), using(crate::proofs::GvarLemmas::has_header, crate::proofs::GvarLemmas::has_array))]
-    pub fn open(
-        gvar: &'a [u8],
-        fvar: Option<&'a [u8]>,
-        glyphs: u16,
-    ) -> Result<Variations<'a>, BadVariations>
-        ensures exact { IsOk result ↔ is_bad_variations gvar.now (option_copied fvar.entry) glyphs ≡ false }
-        ensures value { IfOk result (λ variations. variations ≡ (gvar.now, glyphs)) }
+    pub fn open(gvar: &'a [u8], fvar: Option<&'a [u8]>, glyphs: u16) -> Option<Variations<'a>>
+        ensures exact { IsSome result ↔ is_bad_variations gvar.now (option_copied fvar.entry) glyphs ≡ false }
+        ensures value { IfSome result (λ variations. variations ≡ (gvar.now, glyphs)) }
     {
         if is_bad_table(gvar, fvar.unwrap_or(&[]), glyphs) {
-            return Err(BadVariations);
+            return None;
         }
-        Ok(Variations {
+        Some(Variations {
             gvar,
             offsets: rest_from(gvar, HEADER),
             array: rest_from(gvar, read_data_array_offset(gvar)),

@@ -6,12 +6,12 @@ use Rattle.streams.specs.declared.outlet.Outlet.{Outlet}
 use Rattle.font_theory.specs.Content.{Content}
 use Rattle.font_theory.specs.File.{current_writing, current_profile, file}
 use Rattle.font_write.specs.Plan.{IsPlan, IsSize}
+use Rattle.font_write.specs.declared.cut_error.CutError.{CutError}
+use Rattle.font_write.specs.declared.cut_error.CutError.TheVariants as cut_errors
+use Rattle.font_write.specs.declared.cut_error.CutIntoError.{CutIntoError}
+use Rattle.font_write.specs.declared.cut_error.CutIntoError.TheVariants as into_errors
 use Rattle.font_write.specs.declared.plan.Plan.{Plan}
 use Rattle.font_write.specs.declared.size.Size.{Size}
-use Rattle.font_write.specs.declared.whole_file.FileError.{FileError}
-use Rattle.font_write.specs.declared.whole_file.FileError.TheVariants as file_errors
-use Rattle.font_write.specs.declared.whole_file.SendError.{SendError}
-use Rattle.font_write.specs.declared.whole_file.SendError.TheVariants as send_errors
 
 -- the file of a content is counted, and not too large
 pub record IsFileSize (K : Content) (size : Size) : Type 0 where
@@ -35,15 +35,16 @@ pub record IsWritten (whole bytes : List ℕ) : Type 0 where
   pub small : length bytes ≤ MAX_FILE
 
 -- why a file is not in memory: out of memory for one that is not too large, or it is too large
-abbrev pub IsFileRefusal : List ℕ → FileError → Type 0
-IsFileRefusal whole file_errors.NoMemory = length whole ≤ MAX_FILE
-IsFileRefusal whole (file_errors.TooLarge size) = IsTooLarge whole size
+abbrev pub IsFileRefusal : List ℕ → CutError → Type 0
+IsFileRefusal whole cut_errors.NoMemory = length whole ≤ MAX_FILE
+IsFileRefusal whole (cut_errors.TooLarge size) = IsTooLarge whole size
 
 -- why a file was not sent, and what was: nothing of one that is too large, and else, where a write failed, a
--- front of it
-abbrev pub StopsFile : {W : Type 0} → (W → Option (List ℕ)) → Outlet W → Outlet W → List ℕ → SendError →
+-- front of it; no memory is asked for
+abbrev pub StopsFile : {W : Type 0} → (W → Option (List ℕ)) → Outlet W → Outlet W → List ℕ → CutIntoError →
     Type 0
-StopsFile contents old new whole (send_errors.TooLarge size) = (new ≡ old) × IsTooLarge whole size
-StopsFile contents old new whole (send_errors.WriteFault written) =
+StopsFile contents old new whole into_errors.NoMemory = ⊥
+StopsFile contents old new whole (into_errors.TooLarge size) = (new ≡ old) × IsTooLarge whole size
+StopsFile contents old new whole (into_errors.WriteFault written) =
     (length whole ≤ MAX_FILE) × (broken_of new ≡ true) × (written ≡ written_of new)
     × WentOut contents old new (take written whole)

@@ -2,6 +2,7 @@
 #![tactic(auto)]
 
 mod bytes;
+mod cut_error;
 mod laws;
 mod made;
 mod made_cmap;
@@ -18,6 +19,7 @@ mod vec_sink;
 mod whole_file;
 mod writer;
 
+pub use crate::cut_error::{CutError, CutIntoError};
 pub use crate::laws::table_limit_is;
 pub use crate::made::{Made, made_in};
 pub use crate::plan::{Measure, Plan, plan_of};
@@ -25,8 +27,6 @@ pub use crate::same::{Same, is_file_of};
 pub use crate::sink::{Sink, Stopped};
 pub use crate::size::{Counts, Size, counted_size, file_size};
 pub use crate::source::{MAX_TABLE, Source};
-pub use crate::whole_file::{
-    CURRENT, FileError, OLD, SendError, file_in_memory, is_whole_file, measured, send_whole,
-};
+pub use crate::whole_file::{CURRENT, OLD, file_in_memory, is_whole_file, measured, send_whole};
 pub use crate::writer::send_file;
 pub use font_theory::Profile;

@@ -7,6 +7,7 @@ ghost use Rattle.font_write.specs.Plan.{IsSize};
 ghost use Rattle.font_write.specs.WholeFile.{IsFileRefusal, IsFileSize, IsMeasured, IsTooLarge, IsWritten, StopsFile};
 ghost use Rattle.streams.specs.Outlet.{WentOut, broken_of, fresh_of};
 
+use crate::cut_error::{CutError, CutIntoError};
 use crate::plan::{Plan, plan_of};
 use crate::same::is_file_of;
 use crate::size::{Size, file_size};
@@ -23,24 +24,6 @@ pub const CURRENT: Profile = Profile::Second;
 
 /// The profile that was written before.
 pub const OLD: Profile = Profile::First;
-
-/// Why there is no file in memory.
-#[derive(Clone, Copy, Debug, PartialEq, Eq)]
-pub enum FileError {
-    /// Out of memory.
-    NoMemory,
-    /// The file would have this number of bytes, more than [`MAX_FILE`].
-    TooLarge(u64),
-}
-
-/// Why a file is not sent.
-#[derive(Clone, Copy, Debug, PartialEq, Eq)]
-pub enum SendError {
-    /// The file would have this number of bytes, more than [`MAX_FILE`]. Nothing was sent.
-    TooLarge(u64),
-    /// A write failed after this number of bytes.
-    WriteFault(u64),
-}
 
 /// Counts a source, or returns the length of its file as an error where that is too large. It asks for no
 /// memory.
@@ -75,19 +58,19 @@ fn measure<S: Source>(source: &S) -> Result<(Plan, u64), u64>
 /// # Errors
 ///
 /// `TooLarge` where the file has more than [`MAX_FILE`] bytes, and `NoMemory` if there is no memory for the file.
-pub fn file_in_memory<S: Source, A: Memory>(alloc: A, source: &S) -> Result<Vec<u8, A>, FileError>
+pub fn file_in_memory<S: Source, A: Memory>(alloc: A, source: &S) -> Result<Vec<u8, A>, CutError>
     ensures exact { MatchResult result
         (λ v. IsWritten (file current_writing (S.content_of source.now)) v.items)
         (IsFileRefusal (file current_writing (S.content_of source.now))) }
-    ensures memory { result ≡ Err FileError.NoMemory →
+    ensures memory { result ≡ Err CutError.NoMemory →
         A.refuses (length (file current_writing (S.content_of source.now))) }
 {
     match measure(source) {
         Ok((plan, size)) => match write_file(alloc, source, &plan, size as usize) {
             Ok(file) => Ok(file),
-            Err(NoMemory) => Err(FileError::NoMemory),
+            Err(NoMemory) => Err(CutError::NoMemory),
         },
-        Err(size) => Err(FileError::TooLarge(size)),
+        Err(size) => Err(CutError::TooLarge(size)),
     }
 }
 
@@ -97,7 +80,7 @@ pub fn file_in_memory<S: Source, A: Memory>(alloc: A, source: &S) -> Result<Vec<
 ///
 /// `TooLarge` where the file has more than [`MAX_FILE`] bytes: nothing was sent. `WriteFault` where a write
 /// failed: the outlet is broken, and a front of the file went out.
-pub fn send_whole<S: Source, W: Write>(source: &S, out: &mut Outlet<W>) -> Result<u64, SendError>
+pub fn send_whole<S: Source, W: Write>(source: &S, out: &mut Outlet<W>) -> Result<u64, CutIntoError>
     requires { fresh_of out.old ≡ true }
     ensures size { IfOk result (λ size. size ≡ length (file current_writing (S.content_of source.now))) }
     ensures small { OnOk result (length (file current_writing (S.content_of source.now)) ≤ MAX_FILE) }
@@ -109,10 +92,10 @@ pub fn send_whole<S: Source, W: Write>(source: &S, out: &mut Outlet<W>) -> Resul
 {
     let (plan, bytes) = match measure(source) {
         Ok(measured) => measured,
-        Err(size) => return Err(SendError::TooLarge(size)),
+        Err(size) => return Err(CutIntoError::TooLarge(size)),
     };
     if send_file(source, &plan, out).is_err() {
-        return Err(SendError::WriteFault(out.written()));
+        return Err(CutIntoError::WriteFault(out.written()));
     }
     Ok(bytes)
 }

@@ -8,14 +8,15 @@ use Rattle.fontcut_c.specs.Answers.{IsInRoom}
 use Rattle.fontcut_c.specs.Cutting.{AcceptsRequest}
 use Rattle.fontcut_c.specs.GlyphSets.{IsClosureInRoom, RefusesClosure, closure_of}
 use Rattle.fontcut_c.specs.Inside.{IsBadText, RefusesRoom}
-use Rattle.fontcut_c.specs.Requests.{Asked}
+use Rattle.fontcut_c.specs.Requests.{RawRequest}
 use Rattle.fontcut_c.specs.TextRanges.{RefusesRanges}
 use Rattle.fontcut_c.specs.declared.refusal.Refusal.{Refusal}
 use Rattle.fontcut_c.specs.declared.refusal.Refusal.TheVariants.{BadRange, BadText, Font, Join, NoGlyph, NoMemory}
 use Rattle.fontcut_c.specs.declared.refusal.Refusal.TheVariants.{Second, SmallRoom, TooLarge}
 use Rattle.fontcut_c.proofs.ListedLemmas.{closure_cut}
+use Rattle.fontcut_c.proofs.ShapedLemmas.{has_shaped}
 
-module _ (kind : Kind) (font : List ℕ) (a : Asked) (numbers : List ℕ) (accepted : AcceptsRequest font a)
+module _ (kind : Kind) (font : List ℕ) (a : RawRequest) (numbers : List ℕ) (accepted : AcceptsRequest font a)
     (opened : cutting_fault true kind font ≡ None) (is : numbers ≡ closure_of kind font a) where
   unwritten : (room : ℕ) (refusal : Refusal) → RefusesRoom (length numbers) room refusal
       → RefusesClosure kind font a room refusal
@@ -40,6 +41,7 @@ module _ (kind : Kind) (font : List ℕ) (a : Asked) (numbers : List ℕ) (accep
         accepted = accepted;
         opened = opened;
         closes = closure_cut kind font a (accepted_for true kind font opened);
+        shapes = has_shaped kind font a opened;
         written =
             record {
               length_is = w.length_is ∙ ap (λ (l : List ℕ). length l) is;

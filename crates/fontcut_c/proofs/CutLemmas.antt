@@ -11,36 +11,36 @@ use Rattle.font_theory.specs.File.{current_writing, file}
 use Rattle.font_theory.specs.Kinds.{fault_of}
 use Rattle.font_theory.specs.declared.kinds.Kind.{Kind}
 use Rattle.font_theory.proofs.KindLemmas.{kind_is}
-use Rattle.font_subset.specs.KeptGlyphs.{written_of}
-use Rattle.font_subset.specs.CutOfKind.{cut_as, cut_in}
+use Rattle.font_subset.specs.KeptGlyphs.{written_content}
+use Rattle.font_subset.specs.CutOfKind.{cut_of, opened_font_cut}
 use Rattle.font_subset.specs.KeptGlyphs.{asked, wanted_in}
 use Rattle.font_subset.proofs.ClosingRefusalLemmas.{font_refused}
 use Rattle.font_subset.proofs.CutLemmas.{cut_in_is}
 use Rattle.font_subset.proofs.SourceLemmas.{Held}
 use Rattle.commands.proofs.HeldLemmas.{holds_of_font}
-use Rattle.commands.specs.Run.{cut_for, fault_for}
+use Rattle.commands.specs.Run.{requested_cut, requested_fault}
 use Rattle.fontcut_c.specs.Cutting.{AcceptsRequest, IsCutInRoom, IsCutSize, IsRefusedFor, RefusesSubset}
 use Rattle.fontcut_c.specs.GlyphSets.{RefusesClosure}
-use Rattle.fontcut_c.specs.Inside.{IsFileInRoom, RefusesFile, RefusesOpening, RefusesRequest, cut_of_set, cut_opened}
-use Rattle.fontcut_c.specs.Requests.{Asked, closes_for, request_of, wished}
+use Rattle.fontcut_c.specs.Inside.{IsFileInRoom, RefusesFile, RefusesOpening, RefusesRequest, cut_of_set, wished_cut}
+use Rattle.fontcut_c.specs.Requests.{RawRequest, closes_for, request_of, wished}
 use Rattle.fontcut_c.specs.declared.wanted_set.WantedSet.{WantedSet}
 use Rattle.fontcut_c.specs.declared.refusal.Refusal.{Refusal}
 use Rattle.fontcut_c.specs.declared.refusal.Refusal.TheVariants.{BadRange, BadText, Font, Join, NoGlyph, NoMemory}
 use Rattle.fontcut_c.specs.declared.refusal.Refusal.TheVariants.{Second, SmallRoom, TooLarge}
 
 -- the file of a source is the cut that is asked for
-pub file_of_source : (kind : Kind) (font : List ℕ) (a : Asked) (opened : Kind × (List ℕ × Bool))
+pub file_of_source : (kind : Kind) (font : List ℕ) (a : RawRequest) (opened : Kind × (List ℕ × Bool))
     (held : Kind × List ℕ) (set : WantedSet) (source : Held)
     → opened ≡ (kind, (font, closes_for kind a)) → held ≡ (opened.0, opened.1.0)
-    → cut_of_set opened set ≡ cut_opened opened a
+    → cut_of_set opened set ≡ wished_cut opened a
     → source ≡ (held.0, (held.1, asked (Some set.codes) (option_map (λ v. v.items) set.numbers)))
-    → file current_writing (written_of source) ≡ cut_for (request_of kind a) font
+    → file current_writing (written_content source) ≡ requested_cut (request_of kind a) font
 file_of_source kind font a opened held set source same held_is wanted source_is =
     cut_in_is held (Some set.codes) (option_map (λ v. v.items) set.numbers) source source_is
-    ∙ (λ i. cut_in (held_is i).0 (held_is i).1 (wanted_in (asked (Some set.codes)
+    ∙ (λ i. cut_of (held_is i).0 (held_is i).1 (wanted_in (asked (Some set.codes)
     (option_map (λ v. v.items) set.numbers))))
     ∙ wanted
-    ∙ (λ i. cut_as (same i) (wished a))
+    ∙ (λ i. opened_font_cut (same i) (wished a))
 
 -- what is refused as a font is refused for cuts of each kind
 pub refused_for : (kind : Kind) (font : List ℕ) (error : FontError) → font_fault font ≡ Some error
@@ -53,13 +53,13 @@ pub refused_accepted : {P : Type 0} (font : List ℕ) (error : FontError) → fo
 refused_accepted font error refused accepted = absurd (none-some error (sym accepted ∙ refused))
 
 -- what is refused as a font is refused for each cut, whatever is asked
-pub request_refused : (kind : Kind) (font : List ℕ) (a : Asked) (error : FontError)
+pub request_refused : (kind : Kind) (font : List ℕ) (a : RawRequest) (error : FontError)
     → font_fault font ≡ Some error → IsRefusedFor kind font a error
 request_refused kind font a error h =
     (font_refused (closes_for kind a) kind font error h, refused_accepted font error h)
 
 -- what refuses the request refuses the cut
-pub cut_refused : (kind : Kind) (font : List ℕ) (a : Asked) (room : ℕ) (refusal : Refusal)
+pub cut_refused : (kind : Kind) (font : List ℕ) (a : RawRequest) (room : ℕ) (refusal : Refusal)
     → RefusesRequest font a refusal → RefusesSubset kind font a room refusal
 cut_refused kind font a room (Font error) h = request_refused kind font a error h
 cut_refused kind font a room (BadRange k) h = h
@@ -72,7 +72,7 @@ cut_refused kind font a room (Join error) h = absurd h
 cut_refused kind font a room (BadText index) h = absurd h
 
 -- what refuses the request refuses the closure
-pub closure_refused : (kind : Kind) (font : List ℕ) (r : Asked) (room : ℕ) (refusal : Refusal)
+pub closure_refused : (kind : Kind) (font : List ℕ) (r : RawRequest) (room : ℕ) (refusal : Refusal)
     → RefusesRequest font r refusal → RefusesClosure kind font r room refusal
 closure_refused kind font r room (Font error) h = (font_refused true kind font error h, refused_accepted font error h)
 closure_refused kind font r room (BadRange k) h = h
@@ -85,7 +85,8 @@ closure_refused kind font r room (Join error) h = absurd h
 closure_refused kind font r room (BadText index) h = absurd h
 
 -- a font that is not opened has no cut
-pub unopened_cut : (kind : Kind) (font : List ℕ) (a : Asked) (room : ℕ) → AcceptsRequest font a → (refusal : Refusal)
+pub unopened_cut : (kind : Kind) (font : List ℕ) (a : RawRequest) (room : ℕ) → AcceptsRequest font a
+    → (refusal : Refusal)
     → RefusesOpening kind font a refusal → RefusesSubset kind font a room refusal
 unopened_cut kind font a room accepted (Font error) h = (h, λ _. (accepted.good, accepted.known))
 unopened_cut kind font a room accepted NoMemory h = accepted
@@ -97,9 +98,9 @@ unopened_cut kind font a room accepted (Second error) h = absurd h
 unopened_cut kind font a room accepted (Join error) h = absurd h
 unopened_cut kind font a room accepted (BadText index) h = absurd h
 
-module _ (kind : Kind) (font : List ℕ) (a : Asked) (made : List ℕ) (accepted : AcceptsRequest font a)
-    (opened : fault_for (request_of kind a) font ≡ None)
-    (is : made ≡ cut_for (request_of kind a) font) where
+module _ (kind : Kind) (font : List ℕ) (a : RawRequest) (made : List ℕ) (accepted : AcceptsRequest font a)
+    (opened : requested_fault (request_of kind a) font ≡ None)
+    (is : made ≡ requested_cut (request_of kind a) font) where
   size_of_cut : (size : ℕ) → size ≡ length made → IsCutSize kind font a size
   size_of_cut size e = record { accepted = accepted; opened = opened; size_is = e ∙ ap (λ (b : List ℕ). length b) is }
 

@@ -6,17 +6,17 @@ use Rattle.std.specs.List.{list_all}
 use Rattle.std.proofs.lemmas.List.{length-map}
 use Rattle.std.proofs.lemmas.Result.{MatchResult-weaker}
 use Rattle.std.proofs.lemmas.Simd.{map-map}
-use Rattle.commands.specs.Run.{cut_for, fault_for}
+use Rattle.commands.specs.Run.{requested_cut, requested_fault}
 use Rattle.font_file.specs.Font.{font_fault}
 use Rattle.font_theory.specs.File.{current_writing, file}
 use Rattle.font_theory.specs.declared.kinds.Kind.{Kind}
-use Rattle.font_subset.specs.KeptGlyphs.{asked, written_of}
+use Rattle.font_subset.specs.KeptGlyphs.{asked, written_content}
 use Rattle.font_subset.specs.CutOfKind.{keeps_links}
 use Rattle.font_subset.proofs.CutLemmas.{cut_in_is}
 use Rattle.font_subset.proofs.SourceLemmas.{Held}
 use Rattle.fontcut_c.specs.ManyCuts.{AcceptsAll, AreCutsInRoom, AreInRoom, RefusesSubsets, cuts_for}
-use Rattle.fontcut_c.specs.Requests.{Asked, asked_at, closes_for, has_closes, is_like, request_of}
-use Rattle.fontcut_c.specs.Inside.{RefusesAll, RefusesCuts, RefusesFiles, RefusesOpening, cut_of_set, cut_opened}
+use Rattle.fontcut_c.specs.Requests.{RawRequest, asked_at, closes_for, has_closes, is_like, request_of}
+use Rattle.fontcut_c.specs.Inside.{RefusesAll, RefusesCuts, RefusesFiles, RefusesOpening, cut_of_set, wished_cut}
 use Rattle.fontcut_c.specs.declared.refusal.Refusal.{Refusal}
 use Rattle.fontcut_c.specs.declared.refusal.Refusal.TheVariants.{BadRange, BadText, Font, Join, NoGlyph, NoMemory}
 use Rattle.fontcut_c.specs.declared.refusal.Refusal.TheVariants.{Second, SmallRoom, TooLarge}
@@ -25,13 +25,14 @@ use Rattle.fontcut_c.proofs.CutLemmas.{refused_accepted, request_refused}
 use Rattle.fontcut_c.proofs.RequestLemmas.{same_flags, same_rest}
 
 -- the cuts of a font that was opened as the first request asks are those that all ask for, if they are like it
-same_cuts : (kind : Kind) (font : List ℕ) (first : Asked) (all : List Asked) → list_all (is_like first) all ≡ true
-    → map (cut_opened (kind, (font, closes_for kind first))) all ≡ cuts_for kind font all
+same_cuts :
+    (kind : Kind) (font : List ℕ) (first : RawRequest) (all : List RawRequest) → list_all (is_like first) all ≡ true
+    → map (wished_cut (kind, (font, closes_for kind first))) all ≡ cuts_for kind font all
 same_cuts kind font first [] h = refl
 same_cuts kind font first (a ∷ all) h =
     let flags : a.flags ≡ first.flags = same_flags first a all h in
-    let one : cut_opened (kind, (font, closes_for kind first)) a ≡ cut_for (request_of kind a) font =
-    λ i. cut_opened (kind, (font, has_closes (sym flags i) && keeps_links kind)) a in
+    let one : wished_cut (kind, (font, closes_for kind first)) a ≡ requested_cut (request_of kind a) font =
+    λ i. wished_cut (kind, (font, has_closes (sym flags i) && keeps_links kind)) a in
     let rest = same_cuts kind font first all (same_rest first a all h) in
     λ i. one i ∷ rest i
 
@@ -41,13 +42,13 @@ made_of font set = (font.0, (font.1, asked (Some set.codes) (option_map (λ v. v
 
 -- the file of the cut that is made of this
 abbrev pub made_file : Held → List ℕ
-made_file s = file current_writing (written_of s)
+made_file s = file current_writing (written_content s)
 
 -- what is passed on as slices is what stands in the vectors
-module _ (kind : Kind) (font : List ℕ) (all : List Asked) (opened : Kind × (List ℕ × Bool)) (held : Kind × List ℕ)
+module _ (kind : Kind) (font : List ℕ) (all : List RawRequest) (opened : Kind × (List ℕ × Bool)) (held : Kind × List ℕ)
     (wanted given : List WantedSet) (made seen : List Held) (alike : list_all (is_like (asked_at all 0)) all ≡ true)
     (is_opened : opened ≡ (kind, (font, closes_for kind (asked_at all 0)))) (is_held : held ≡ (opened.0, opened.1.0))
-    (are_wanted : map (cut_of_set opened) wanted ≡ map (cut_opened opened) all)
+    (are_wanted : map (cut_of_set opened) wanted ≡ map (wished_cut opened) all)
     (are_given : given ≡ wanted) (are_made : made ≡ map (made_of held) given) (are_seen : seen ≡ made) where
   -- the files of all sources are the cuts
   pub files_of_sources : map made_file seen ≡ cuts_for kind font all
@@ -59,7 +60,7 @@ module _ (kind : Kind) (font : List ℕ) (all : List Asked) (opened : Kind × (L
       ∙ ((λ i. map (λ (set : WantedSet). cut_in_is (opened.0, opened.1.0) (Some set.codes)
       (option_map (λ v. v.items) set.numbers) (made_of (opened.0, opened.1.0) set) refl i) wanted)
       ∙ (are_wanted
-      ∙ ((λ i. map (cut_opened (is_opened i)) all)
+      ∙ ((λ i. map (wished_cut (is_opened i)) all)
       ∙ same_cuts kind font (asked_at all 0) all alike))))
 
   -- there are as many sources as requests
@@ -68,7 +69,7 @@ module _ (kind : Kind) (font : List ℕ) (all : List Asked) (opened : Kind × (L
       e
       ∙ sym (sym (length-map seen made_file)
       ∙ (ap (λ (l : List (List ℕ)). length l) files_of_sources
-      ∙ length-map all (λ (a : Asked). cut_for (request_of kind a) font)))
+      ∙ length-map all (λ (a : RawRequest). requested_cut (request_of kind a) font)))
 
 -- what is answered of files
 abbrev pub IsAnswered : List (List ℕ) → List ℕ → List ℕ → List ℕ → List ℕ → Result ℕ Refusal → Type 0
@@ -77,10 +78,11 @@ IsAnswered files old new old_sizes sizes result =
     × RefusesFiles files (length old) refusal)
 
 -- a font that is not opened has no cuts
-pub unopened_cuts : (kind : Kind) (font : List ℕ) (all : List Asked) (a : Asked) (room : ℕ) → a ≡ asked_at all 0
+pub unopened_cuts :
+    (kind : Kind) (font : List ℕ) (all : List RawRequest) (a : RawRequest) (room : ℕ) → a ≡ asked_at all 0
     → (refusal : Refusal) → RefusesOpening kind font a refusal → RefusesCuts kind font all room refusal
 unopened_cuts kind font all a room e (Font error) h =
-    subst (λ (b : Asked). fault_for (request_of kind b) font ≡ Some error) e h
+    subst (λ (b : RawRequest). requested_fault (request_of kind b) font ≡ Some error) e h
 unopened_cuts kind font all a room e NoMemory h = h
 unopened_cuts kind font all a room e (BadRange k) h = absurd h
 unopened_cuts kind font all a room e (NoGlyph index) h = absurd h
@@ -91,8 +93,8 @@ unopened_cuts kind font all a room e (Join error) h = absurd h
 unopened_cuts kind font all a room e (BadText index) h = absurd h
 
 -- of a font that was opened for what is asked, what is answered of files is answered of its cuts
-module _ (kind : Kind) (font : List ℕ) (all : List Asked) (fine : font_fault font ≡ None)
-    (accepted : AcceptsAll font all) (opened : fault_for (request_of kind (asked_at all 0)) font ≡ None) where
+module _ (kind : Kind) (font : List ℕ) (all : List RawRequest) (fine : font_fault font ≡ None)
+    (accepted : AcceptsAll font all) (opened : requested_fault (request_of kind (asked_at all 0)) font ≡ None) where
   unwritten : (room : ℕ) (refusal : Refusal) → RefusesFiles (cuts_for kind font all) room refusal
       → RefusesCuts kind font all room refusal
   unwritten room NoMemory h = fine
@@ -116,7 +118,7 @@ module _ (kind : Kind) (font : List ℕ) (all : List Asked) (fine : font_fault f
       (λ refusal h. (h.0, h.1, unwritten (length old) refusal h.2))
 
 -- what refuses the requests refuses their cuts
-pub all_refused : (kind : Kind) (font : List ℕ) (all : List Asked) (room step : ℕ) (refusal : Refusal)
+pub all_refused : (kind : Kind) (font : List ℕ) (all : List RawRequest) (room step : ℕ) (refusal : Refusal)
     → RefusesAll font all step refusal → RefusesSubsets kind font all room step refusal
 all_refused kind font all room step (Font error) h =
     (h.0, (request_refused kind font (asked_at all 0) error h.1).0, refused_accepted font error h.1)
@@ -130,7 +132,7 @@ all_refused kind font all room step (Join error) h = absurd h.refused
 all_refused kind font all room step (BadText index) h = absurd h.refused
 
 -- why cuts of an opened font are not written is why they are not answered
-pub cuts_refused : (kind : Kind) (font : List ℕ) (all : List Asked) (room : ℕ) → AcceptsAll font all
+pub cuts_refused : (kind : Kind) (font : List ℕ) (all : List RawRequest) (room : ℕ) → AcceptsAll font all
     → (refusal : Refusal) → RefusesCuts kind font all room refusal → RefusesSubsets kind font all room 0 refusal
 cuts_refused kind font all room accepted (Font error) h = (refl, h, λ _. accepted)
 cuts_refused kind font all room accepted NoMemory h = (refl, accepted)

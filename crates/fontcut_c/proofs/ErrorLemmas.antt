@@ -3,23 +3,22 @@ use Rattle.std.proofs.Common.{◌≡◌, ℕ, nat_eq, nat_lt, ◌&&◌, ◌≤�
 use Rattle.std.proofs.lemmas.Bool.Decides.{nat_tests}
 use Rattle.std.specs.Option.{option_map}
 use Rattle.sfnt_bytes.specs.Lines.{first_of_lines, when}
-use Rattle.codes.specs.declared.wanted.WantedError.TheVariants.{BadRange, NoMemory}
 use Rattle.font_join.specs.declared.join_error.JoinAllError.TheVariants.{At, NothingToJoin}
 use Rattle.fontcut_c.specs.Errors.{error_of, font_error_lines, font_error_of, join_error_lines, join_error_of}
 use Rattle.fontcut_c.specs.declared.answer.Answer.{Answer}
-use Rattle.fontcut_c.specs.declared.any_error.AnyError.{AnyError}
-use Rattle.fontcut_c.specs.declared.any_error.AnyError.TheVariants.{Font, Join, Wanted}
+use Rattle.fontcut_c.specs.declared.refusal.Refusal.{Refusal}
+use Rattle.fontcut_c.specs.declared.refusal.Refusal.TheVariants.{BadRange, Font, Join, NoMemory}
 
 -- a number that is large is no smaller one
 is_large : (number k : ℕ) → 256 ≤ number → nat_eq number k ≡ (nat_lt 255 k && nat_eq number k)
 is_large number k large = grind (arith, nat_tests, large)
 
 -- the errors, each where this is its number
-abbrev lines_by : (ℕ → Bool) → Answer → List (Option AnyError)
+abbrev lines_by : (ℕ → Bool) → Answer → List (Option Refusal)
 lines_by is answer =
     option_map Font (first_of_lines (font_error_lines is answer.detail))
-    ∷ when (is 15) (Wanted BadRange)
-    ∷ when (is 16) (Wanted NoMemory)
+    ∷ when (is 15) (BadRange answer.detail)
+    ∷ when (is 16) NoMemory
     ∷ when (is 24) (Join NothingToJoin)
     ∷ option_map (λ error. Join (At answer.step error)) (first_of_lines (join_error_lines is answer))
     ∷ []

@@ -6,7 +6,7 @@ use Rattle.std.proofs.lemmas.List.{get_or-map, length-map, map_more, take_more, 
 use Rattle.std.proofs.lemmas.List.Folds.{concat-append}
 use Rattle.std.specs.List.{concat}
 use Rattle.sfnt_bytes.specs.declared.directory.TheConstants.{MAX_FILE}
-use Rattle.fontcut_c.specs.ManyCuts.{AreSmall}
+use Rattle.fontcut_c.specs.ManyCuts.{AreSmallFiles}
 use Rattle.fontcut_c.specs.Inside.{AreMeasured, ArePut, IsPutAt}
 
 -- a sum that is cut off, and more
@@ -82,7 +82,7 @@ module _ {S : Type 0} (f : S → List ℕ) (sources : List S) (n : ℕ) (source 
       subst (λ (k : ℕ). AreMeasured (map f sources) (n + 1) (min (total + k) (2 ^ 64 - 1))) same
       (counted_one (map f sources) n low_file total counted (omega (arith, same, small)))
 
-  pub small_file : AreSmall (map f sources) → length (f source) ≤ MAX_FILE
+  pub small_file : AreSmallFiles (map f sources) → length (f source) ≤ MAX_FILE
   small_file small = subst (λ (b : List ℕ). length b ≤ MAX_FILE) file_at (small n low_file)
 
   pub next_fits : (at room : ℕ) (old new sizes : List ℕ) → ArePut (map f sources) n at old new sizes

@@ -12,4 +12,5 @@ mod PairLemmas
 mod RangeLemmas
 mod RequestLemmas
 mod RowLemmas
+mod ShapedLemmas
 mod StepLemmas

@@ -20,10 +20,10 @@ use Rattle.font_theory.specs.Kinds.{fault_of, format_by, format_of, settings}
 use Rattle.font_theory.specs.declared.kinds.Kind.{Kind}
 use Rattle.font_theory.proofs.KindFileLemmas.{is_there-by}
 use Rattle.font_theory.proofs.KindLemmas.{settings-are}
-use Rattle.font_subset.specs.CutOfKind.{closed_of, cut_in, keeps_links}
-use Rattle.commands.specs.Run.{cut_for}
+use Rattle.font_subset.specs.CutOfKind.{closed_of, cut_of, keeps_links}
+use Rattle.commands.specs.Run.{requested_cut}
 use Rattle.fontcut_c.specs.GlyphSets.{closing, closure_of, exactly}
-use Rattle.fontcut_c.specs.Requests.{Asked, request_of, wanted_by, wished}
+use Rattle.fontcut_c.specs.Requests.{RawRequest, codes_of_ranges, request_of, wished}
 
 -- the numbers below a count at which a test is true
 abbrev listed : (ℕ → Bool) → ℕ → ℕ → Bool
@@ -82,9 +82,10 @@ listed_cut kind file accepted codes test =
     (λ g. there_case kind file accepted test g (((format_of kind).font file).there g) refl))
 
 -- the cut of a kind that keeps links, for a closure, is the closed cut
-pub closure_cut : (kind : Kind) (font : List ℕ) (a : Asked) → fault_of kind font ≡ None → keeps_links kind ≡ true
-    → cut_for (request_of kind (exactly a (closure_of kind font a))) font ≡ cut_for (request_of kind (closing a)) font
+pub closure_cut : (kind : Kind) (font : List ℕ) (a : RawRequest) → fault_of kind font ≡ None → keeps_links kind ≡ true
+    → requested_cut (request_of kind (exactly a (closure_of kind font a))) font
+    ≡ requested_cut (request_of kind (closing a)) font
 unfolding closed
 closure_cut kind font a accepted links =
-    listed_cut kind font accepted (wanted_by a.ranges) (closed_of kind font (wished a)).glyphs
-    ∙ (λ i. cut_in kind font (if sym links i then closed_of kind font (wished a) else wished a))
+    listed_cut kind font accepted (codes_of_ranges a.ranges) (closed_of kind font (wished a)).glyphs
+    ∙ (λ i. cut_of kind font (if sym links i then closed_of kind font (wished a) else wished a))

@@ -8,7 +8,7 @@ use Rattle.std.proofs.lemmas.List.Sorted.{list_any-IsPermutation}
 use Rattle.codes.proofs.AddingLemmas.{le_yes}
 use Rattle.codes.specs.Wanted.{codes_between, either, no_codes}
 use Rattle.codes.specs.declared.code_range.CodeRange.{CodeRange}
-use Rattle.fontcut_c.specs.Requests.{wanted_by, with_ranges}
+use Rattle.fontcut_c.specs.Requests.{codes_of_ranges, with_ranges}
 
 or_turned : (a r b : Bool) → (a || (r || b)) ≡ ((r || a) || b)
 or_turned true true b = refl
@@ -25,7 +25,7 @@ with_ranges-any base (range ∷ ranges) c =
     ∙ or_turned (list_any (λ other. codes_between other.first other.last c) ranges)
     (codes_between range.first range.last c) (base c)
 
-pub wanted_by_sorted : (xs ys : List CodeRange) → IsPermutation xs ys → wanted_by ys ≡ wanted_by xs
+pub wanted_by_sorted : (xs ys : List CodeRange) → IsPermutation xs ys → codes_of_ranges ys ≡ codes_of_ranges xs
 wanted_by_sorted xs ys same =
     fun_ext (λ c. with_ranges-any no_codes ys c
     ∙ ap (λ b. b || no_codes c)
@@ -47,15 +47,15 @@ or_true false = refl
 between_itself : (c : ℕ) → codes_between c c c ≡ true
 between_itself c = ap (λ b. b && b) (le_yes c c (le_refl c))
 
-pub wanted_by_kept : (ranges : List CodeRange) (range : CodeRange) (c : ℕ) → wanted_by ranges c ≡ true
-    → wanted_by (ranges ++ range ∷ []) c ≡ true
+pub wanted_by_kept : (ranges : List CodeRange) (range : CodeRange) (c : ℕ) → codes_of_ranges ranges c ≡ true
+    → codes_of_ranges (ranges ++ range ∷ []) c ≡ true
 wanted_by_kept ranges range c is =
     with_ranges-more no_codes ranges range c
     ∙ ap (λ b. codes_between range.first range.last c || b) is
     ∙ or_true (codes_between range.first range.last c)
 
 pub wanted_by_added : (ranges : List CodeRange) (c : ℕ)
-    → wanted_by (ranges ++ (record { first = c; last = c }) ∷ []) c ≡ true
+    → codes_of_ranges (ranges ++ (record { first = c; last = c }) ∷ []) c ≡ true
 wanted_by_added ranges c =
     with_ranges-more no_codes ranges (record { first = c; last = c }) c
-    ∙ ap (λ b. b || wanted_by ranges c) (between_itself c)
+    ∙ ap (λ b. b || codes_of_ranges ranges c) (between_itself c)

@@ -3,12 +3,11 @@ use Rattle.std.specs.Prelude.{◌≡◌, ℕ, nat_lt, Bool, true, false, List, l
 use Rattle.std.specs.Prelude.{Result, Ok, Err, if◌then◌else◌}
 use Rattle.sfnt_bytes.specs.Tag.{tag_number}
 use Rattle.sfnt_bytes.specs.declared.numbers.TheConstants as numbers
-use Rattle.sfnt_bytes.specs.declared.directory.DirError.TheVariants.{DuplicateTable, TableOutOfFile}
-use Rattle.font_tables.specs.declared.tables.TableError.TheVariants.{BadLoca, MissingTable}
-use Rattle.font_file.specs.Text.{error_number}
+use Rattle.sfnt_bytes.specs.declared.directory.DirError.TheVariants as directories
+use Rattle.font_tables.specs.declared.tables.TableError.TheVariants as tables
+use Rattle.font_file.specs.Text.{font_error_number}
 use Rattle.font_file.specs.declared.font_error.FontError.{FontError}
-use Rattle.font_file.specs.declared.font_error.FontError.TheVariants.{BadGlyph, BadLayout, BadVariations, Directory}
-use Rattle.font_file.specs.declared.font_error.FontError.TheVariants.{Mapping, Tables}
+use Rattle.font_file.specs.declared.font_error.FontError.TheVariants as fonts
 use Rattle.font_subset.specs.declared.forms.CutForm.{CutForm}
 use Rattle.font_subset.specs.declared.forms.CutForm.TheVariants.{Current, Not, Old}
 use Rattle.font_subset.specs.declared.open_error.OpenError.{OpenError}
@@ -62,25 +61,28 @@ at_step step answer =
 
 -- what the refusal of a font names: a tag as a number, an index or a glyph, and else 0
 abbrev pub font_argument : FontError → ℕ
-font_argument (Directory (DuplicateTable tag)) = tag_number tag
-font_argument (Directory (TableOutOfFile tag)) = tag_number tag
-font_argument (Directory _) = 0
-font_argument (Tables (MissingTable tag)) = tag_number tag
-font_argument (Tables (BadLoca index)) = index
-font_argument (Tables _) = 0
-font_argument (Mapping _) = 0
-font_argument (BadGlyph glyph) = glyph
-font_argument BadLayout = 0
-font_argument BadVariations = 0
+-- Written by tools/write_refusals from include/refusals.txt:
+font_argument (fonts.Directory (directories.DuplicateTable tag)) = tag_number tag
+font_argument (fonts.Directory (directories.TableOutOfFile tag)) = tag_number tag
+font_argument (fonts.Directory _) = 0
+font_argument (fonts.Tables (tables.MissingTable tag)) = tag_number tag
+font_argument (fonts.Tables (tables.BadLoca index)) = index
+font_argument (fonts.Tables _) = 0
+font_argument (fonts.Mapping _) = 0
+font_argument (fonts.BadGlyph glyph) = glyph
+font_argument fonts.BadLayout = 0
+font_argument fonts.BadVariations = 0
+
+-- End of what tools/write_refusals writes.
 
 -- a font is refused
 abbrev pub font_answer : FontError → Answer
-font_answer error = refused (error_number error) (font_argument error)
+font_answer error = refused (font_error_number error) (font_argument error)
 
 -- the refusal of a font that is not opened for cuts of a kind
-abbrev pub of_open_error : OpenError → Refusal
-of_open_error open_errors.NoMemory = NoMemory
-of_open_error (open_errors.Refused error) = Font error
+abbrev pub refusal_of_open : OpenError → Refusal
+refusal_of_open open_errors.NoMemory = NoMemory
+refusal_of_open (open_errors.Refused error) = Font error
 
 -- an index, or the largest number of 32 bits where it is larger
 abbrev pub as_detail : ℕ → ℕ
@@ -89,12 +91,14 @@ as_detail index = if nat_lt index 0x1_0000_0000 then index else 0xFFFF_FFFF
 -- what the refusal of a join names: a tag as a number, a code or a glyph, and else 0
 abbrev pub join_argument : JoinError → ℕ
 join_argument (joins.Font which error) = font_argument error
+-- Written by tools/write_refusals from include/refusals.txt:
+join_argument (joins.TooLarge size) = 0
 join_argument (joins.NotACut which) = 0
 join_argument (joins.DifferentTable tag) = tag_number tag
 join_argument (joins.DifferentMapping code) = code
 join_argument (joins.DifferentGlyph glyph) = glyph
 join_argument (joins.TableTooLong tag) = tag_number tag
-join_argument (joins.TooLarge size) = 0
+-- End of what tools/write_refusals writes.
 join_argument joins.NoMemory = 0
 
 -- the answer where two files are not joined

@@ -3,7 +3,7 @@ use Rattle.std.specs.Prelude.{◌≡◌, ℕ, ◌↔◌, IsTrue, Bool, List, Non
 use Rattle.font_file.specs.Font.{font_fault}
 use Rattle.font_theory.specs.Kinds.{fault_of}
 use Rattle.font_theory.specs.declared.kinds.Kind.{Kind}
-use Rattle.font_subset.specs.CutOfKind.{IsCutIn, form_as}
+use Rattle.font_subset.specs.CutOfKind.{IsCutIn, kind_form}
 use Rattle.font_subset.specs.declared.forms.CutForm.{CutForm}
 use Rattle.fontcut_c.specs.Answers.{belongs_answer, form_answer}
 use Rattle.fontcut_c.specs.declared.answer.Answer.{Answer}
@@ -37,7 +37,7 @@ pub record IsBelonging (kind : Kind) (cut font : List ℕ) (is : Bool) : Type 0 
 pub record AnswersForm (kind : Kind) (font : List ℕ) (answer : Answer) : Type 0 where
   pub outcome : Result CutForm Refusal
   pub told : answer ≡ form_answer outcome
-  pub holds : MatchResult outcome (λ form. (fault_of kind font ≡ None) × (form ≡ form_as kind font))
+  pub holds : MatchResult outcome (λ form. (fault_of kind font ≡ None) × (form ≡ kind_form kind font))
       (RefusesForm kind font)
 
 -- what a call answers that asks whether a file is a cut of a font, of a kind

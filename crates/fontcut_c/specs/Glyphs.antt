@@ -12,20 +12,20 @@ use Rattle.fontcut_c.specs.declared.refusal.Refusal.{Refusal}
 use Rattle.fontcut_c.specs.declared.refusal.Refusal.TheVariants.{Font, NoGlyph, SmallRoom}
 
 -- the glyphs to which a font maps codes, in the order of the codes, 0 where it maps one to none
-abbrev pub glyphs_of : List ℕ → List ℕ → List ℕ
-glyphs_of font codes = map (map_of font) codes
+abbrev pub glyphs_of_codes : List ℕ → List ℕ → List ℕ
+glyphs_of_codes font codes = map (map_of font) codes
 
 -- an advance width and a left side bearing, as they are written
 abbrev pub as_metric : ℕ × ℤ → Metric
 as_metric pair = record { advance = pair.0; bearing = pair.1 }
 
 -- the metrics of a glyph of a font
-abbrev pub metric_in : List ℕ → ℕ → Metric
-metric_in font glyph = as_metric (metric_of font glyph)
+abbrev pub written_metric : List ℕ → ℕ → Metric
+written_metric font glyph = as_metric (metric_of font glyph)
 
 -- the metrics of glyphs of a font, in the order of the glyphs
 abbrev pub metrics_of : List ℕ → List ℕ → List Metric
-metrics_of font glyphs = map (metric_in font) glyphs
+metrics_of font glyphs = map (written_metric font) glyphs
 
 -- the number at an index is no glyph of a font
 abbrev pub IsNoGlyphAt : List ℕ → List ℕ → ℕ → Type 0
@@ -48,7 +48,7 @@ pub record IsFirstNoGlyph (font glyphs : List ℕ) (k : ℕ) : Type 0 where
 -- the glyphs of codes are in the room
 pub record AreGlyphsInRoom (font codes old new : List ℕ) (size : ℕ) : Type 0 where
   pub accepted : font_fault font ≡ None
-  pub written : IsInRoom (glyphs_of font codes) old new size
+  pub written : IsInRoom (glyphs_of_codes font codes) old new size
 
 -- why they are not written: the font, and then the room
 abbrev pub RefusesGlyphs : List ℕ → List ℕ → ℕ → Refusal → Type 0

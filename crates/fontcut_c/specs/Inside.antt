@@ -5,21 +5,20 @@ use Rattle.std.specs.Option.{option_map}
 use Rattle.std.specs.List.{concat}
 use Rattle.sfnt_bytes.specs.declared.directory.TheConstants.{MAX_FILE}
 use Rattle.font_tables.specs.Fields.{glyph_count_of}
-use Rattle.commands.specs.Run.{fault_for}
+use Rattle.commands.specs.Run.{requested_fault}
 use Rattle.font_file.specs.Font.{cmap_of, font_fault}
 use Rattle.font_theory.specs.Content.{Content}
 use Rattle.font_theory.specs.File.{current_writing, file}
 use Rattle.font_theory.specs.declared.kinds.Kind.{Kind}
 use Rattle.font_write.specs.Trace.{Trace}
-use Rattle.font_subset.specs.CutOfKind.{cut_as, cut_in}
+use Rattle.font_subset.specs.CutOfKind.{cut_of, opened_font_cut}
 use Rattle.font_subset.specs.KeptGlyphs.{asked, wanted_in}
 use Rattle.font_subset.specs.declared.open_error.OpenError.{OpenError}
 use Rattle.font_subset.specs.declared.open_error.OpenError.TheVariants as open_errors
 use Rattle.fontcut_c.specs.Answers.{IsInRoom}
 use Rattle.fontcut_c.specs.Cutting.{RefusesAsked}
-use Rattle.fontcut_c.specs.ManyCuts.{AreSmall, AreSmallTo, IsFirstLarge, RefusesOne, size_of_all}
-use Rattle.fontcut_c.specs.ManyCuts.{cuts_for}
-use Rattle.fontcut_c.specs.Requests.{Asked, asked_at, closes_for, request_of, wished}
+use Rattle.fontcut_c.specs.ManyCuts.{AreSmallFiles, AreSmallTo, IsFirstLarge, RefusesOne, cuts_for, size_of_all}
+use Rattle.fontcut_c.specs.Requests.{RawRequest, asked_at, closes_for, request_of, wished}
 use Rattle.fontcut_c.specs.declared.wanted_set.WantedSet.{WantedSet}
 use Rattle.fontcut_c.specs.declared.refusal.Refusal.{Refusal}
 use Rattle.fontcut_c.specs.declared.refusal.Refusal.TheVariants.{BadText, Font, NoMemory, Second}
@@ -65,38 +64,38 @@ RefusesJoined bytes room (SmallRoom size) = IsLargerFile bytes room size
 RefusesJoined bytes room _ = ⊥
 
 -- a font was opened, and is accepted
-abbrev pub IsOpened : List ℕ → List ℕ → Type 0
-IsOpened file font = (font ≡ file) × (font_fault file ≡ None)
+abbrev pub IsOpenedFile : List ℕ → List ℕ → Type 0
+IsOpenedFile file font = (font ≡ file) × (font_fault file ≡ None)
 
 -- what refuses a request before memory is asked for: the font, and then what is asked of it
-abbrev pub RefusesRequest : List ℕ → Asked → Refusal → Type 0
+abbrev pub RefusesRequest : List ℕ → RawRequest → Refusal → Type 0
 RefusesRequest font a (Font error) = font_fault font ≡ Some error
 RefusesRequest font a refusal = RefusesAsked font a refusal
 
 -- what refuses requests before memory is asked for: the font, and then the first request that is refused
-abbrev pub RefusesAll : List ℕ → List Asked → ℕ → Refusal → Type 0
+abbrev pub RefusesAll : List ℕ → List RawRequest → ℕ → Refusal → Type 0
 RefusesAll font all step (Font error) = (step ≡ 0) × (font_fault font ≡ Some error)
 RefusesAll font all step refusal = RefusesOne font all step refusal
 
 -- why an accepted font is not opened for the cut that is asked for: it is refused, or memory is
-abbrev pub RefusesOpening : Kind → List ℕ → Asked → Refusal → Type 0
-RefusesOpening kind font a (Font error) = fault_for (request_of kind a) font ≡ Some error
+abbrev pub RefusesOpening : Kind → List ℕ → RawRequest → Refusal → Type 0
+RefusesOpening kind font a (Font error) = requested_fault (request_of kind a) font ≡ Some error
 RefusesOpening kind font a NoMemory = font_fault font ≡ None
 RefusesOpening kind font a _ = ⊥
 
 -- a font was opened for the cut that is asked for
-abbrev pub IsOpenedFor : Kind → List ℕ → Asked → Kind × (List ℕ × Bool) → Type 0
-IsOpenedFor kind font a opened =
-    (opened ≡ (kind, (font, closes_for kind a))) × (fault_for (request_of kind a) font ≡ None)
+abbrev pub IsOpenedForRequest : Kind → List ℕ → RawRequest → Kind × (List ℕ × Bool) → Type 0
+IsOpenedForRequest kind font a opened =
+    (opened ≡ (kind, (font, closes_for kind a))) × (requested_fault (request_of kind a) font ≡ None)
 
 -- why the cuts of an opened font are not written
-abbrev pub RefusesCuts : Kind → List ℕ → List Asked → ℕ → Refusal → Type 0
-RefusesCuts kind font all room (Font error) = fault_for (request_of kind (asked_at all 0)) font ≡ Some error
+abbrev pub RefusesCuts : Kind → List ℕ → List RawRequest → ℕ → Refusal → Type 0
+RefusesCuts kind font all room (Font error) = requested_fault (request_of kind (asked_at all 0)) font ≡ Some error
 RefusesCuts kind font all room NoMemory = font_fault font ≡ None
 RefusesCuts kind font all room (TooLarge size) =
-    (fault_for (request_of kind (asked_at all 0)) font ≡ None) × IsFirstLarge (cuts_for kind font all) size
+    (requested_fault (request_of kind (asked_at all 0)) font ≡ None) × IsFirstLarge (cuts_for kind font all) size
 RefusesCuts kind font all room (SmallRoom size) =
-    (fault_for (request_of kind (asked_at all 0)) font ≡ None) × AreSmall (cuts_for kind font all)
+    (requested_fault (request_of kind (asked_at all 0)) font ≡ None) × AreSmallFiles (cuts_for kind font all)
     × (size ≡ size_of_all (cuts_for kind font all)) × (room < size)
 RefusesCuts kind font all room _ = ⊥
 
@@ -114,11 +113,11 @@ of_unopened_second (open_errors.Refused error) = Second error
 -- what an opened font is asked for, and the cut for it
 abbrev pub cut_of_set : Kind × (List ℕ × Bool) → WantedSet → List ℕ
 cut_of_set font set =
-    cut_in font.0 font.1.0 (wanted_in (asked (Some set.codes) (option_map (λ v. v.items) set.numbers)))
+    cut_of font.0 font.1.0 (wanted_in (asked (Some set.codes) (option_map (λ v. v.items) set.numbers)))
 
 -- the cut of an opened font for what is asked
-abbrev pub cut_opened : Kind × (List ℕ × Bool) → Asked → List ℕ
-cut_opened font a = cut_as font (wished a)
+abbrev pub wished_cut : Kind × (List ℕ × Bool) → RawRequest → List ℕ
+wished_cut font a = opened_font_cut font (wished a)
 
 -- the files of sources, by their contents
 abbrev pub files_of : {S : Type 0} → (S → Content) → List S → List (List ℕ)
@@ -148,7 +147,7 @@ IsChartOf font chart = IfSome chart (λ c. c ≡ (cmap_of font, glyph_count_of f
 abbrev pub RefusesFiles : List (List ℕ) → ℕ → Refusal → Type 0
 RefusesFiles files room NoMemory = Unit {0}
 RefusesFiles files room (TooLarge size) = IsFirstLarge files size
-RefusesFiles files room (SmallRoom size) = AreSmall files × (size ≡ size_of_all files) × (room < size)
+RefusesFiles files room (SmallRoom size) = AreSmallFiles files × (size ≡ size_of_all files) × (room < size)
 RefusesFiles files room _ = ⊥
 
 -- so many items are more than there is room for

@@ -17,7 +17,7 @@ use Rattle.fontcut_c.specs.declared.requests.Request.{Request as InMemory}
 
 -- what is asked of a font: how long the request says that it is, the number of a kind, the sum of flags, the ranges of
 -- wanted codes, and wanted glyphs by number
-pub record Asked : Type 0 where
+pub record RawRequest : Type 0 where
   pub struct_size : ℕ
   pub kind : ℕ
   pub flags : ℕ
@@ -25,7 +25,7 @@ pub record Asked : Type 0 where
   pub glyphs : List ℕ
 
 -- what a request in memory asks
-abbrev pub asked_by : InMemory → Asked
+abbrev pub asked_by : InMemory → RawRequest
 asked_by request = record {
   struct_size = request.struct_size;
   kind = request.kind;
@@ -35,7 +35,7 @@ asked_by request = record {
 }
 
 -- the request at an index
-abbrev pub asked_at : List Asked → ℕ → Asked
+abbrev pub asked_at : List RawRequest → ℕ → RawRequest
 asked_at all k = slice_index_or all k (record { struct_size = 0; kind = 0; flags = 0; ranges = []; glyphs = [] })
 
 -- a sum of flags has that of cuts with all that links of GSUB lead to
@@ -47,7 +47,7 @@ abbrev pub has_checked : ℕ → Bool
 has_checked flags = nat_eq flags 2 || nat_eq flags 3
 
 -- a request has the length of this version, and no flags but these two
-abbrev pub is_of_this_version : Asked → Bool
+abbrev pub is_of_this_version : RawRequest → Bool
 is_of_this_version a = nat_eq a.struct_size 48 && nat_lt a.flags 4
 
 -- the codes of a set, and of ranges more
@@ -57,25 +57,25 @@ with_ranges wanted (range ∷ ranges) =
     with_ranges (either (codes_between range.first range.last) wanted) ranges
 
 -- the codes of ranges
-abbrev pub wanted_by : List CodeRange → ℕ → Bool
-wanted_by ranges = with_ranges no_codes ranges
+abbrev pub codes_of_ranges : List CodeRange → ℕ → Bool
+codes_of_ranges ranges = with_ranges no_codes ranges
 
 -- a cut of a kind that is asked for is closed under links
-abbrev pub closes_for : Kind → Asked → Bool
+abbrev pub closes_for : Kind → RawRequest → Bool
 closes_for kind a = has_closes a.flags && keeps_links kind
 
 -- the codes and the glyphs that are wanted
-abbrev pub wished : Asked → Wanted
-wished a = record { codes = wanted_by a.ranges; glyphs = glyphs_wanted (Some a.glyphs) }
+abbrev pub wished : RawRequest → Wanted
+wished a = record { codes = codes_of_ranges a.ranges; glyphs = glyphs_wanted (Some a.glyphs) }
 
 -- what the program is asked for where its cuts are of this kind
-abbrev pub request_of : Kind → Asked → Request
+abbrev pub request_of : Kind → RawRequest → Request
 request_of kind a =
-    record { kind = kind; closes = closes_for kind a; codes = wanted_by a.ranges; numbers = Some a.glyphs }
+    record { kind = kind; closes = closes_for kind a; codes = codes_of_ranges a.ranges; numbers = Some a.glyphs }
 
 -- the kind of cuts that a request asks for; or what is answered where it is not of this version, its number is no
 -- kind's, or it asks for glyphs of full cuts
-unfoldable pub read : Asked → Result Kind Answer
+unfoldable pub read : RawRequest → Result Kind Answer
 read a =
     if is_of_this_version a
     then option_map_or (λ kind. if takes_glyphs kind a.glyphs then Ok kind else Err no_numbers) (kind_of a.kind)
@@ -83,18 +83,18 @@ read a =
     else Err unknown_request
 
 -- a request differs from the first one in its ranges and glyphs alone
-abbrev pub is_like : Asked → Asked → Bool
+abbrev pub is_like : RawRequest → RawRequest → Bool
 is_like first a =
     nat_eq a.struct_size first.struct_size && nat_eq a.kind first.kind && nat_eq a.flags first.flags
 
 -- the kind of the first request, where cuts of it can be asked for the glyphs of all
-abbrev pub read_on : List Asked → Result Kind Answer → Result Kind Answer
+abbrev pub read_on : List RawRequest → Result Kind Answer → Result Kind Answer
 read_on all (Err answer) = Err answer
 read_on all (Ok kind) = if list_all (λ a. takes_glyphs kind a.glyphs) all then Ok kind else Err no_numbers
 
 -- the same of requests, of which there is one at least, which are all like the first one, and for which there are as
 -- many places
-unfoldable pub read_all : List Asked → ℕ → Result Kind Answer
+unfoldable pub read_all : List RawRequest → ℕ → Result Kind Answer
 read_all all places =
     if nat_lt 0 (length all) && nat_eq places (length all) && list_all (is_like (asked_at all 0)) all
     then read_on all (read (asked_at all 0))

@@ -5,14 +5,14 @@ use Rattle.std.specs.Prelude.{◌≡◌, ℕ, ◌<◌, All, IsUtf8, List, chars,
 use Rattle.std.specs.Str.{IsValidUpTo}
 use Rattle.codes.specs.declared.code_range.CodeRange.{CodeRange}
 use Rattle.fontcut_c.specs.Answers.{IsInRoom, size_answer}
-use Rattle.fontcut_c.specs.Requests.{wanted_by}
+use Rattle.fontcut_c.specs.Requests.{codes_of_ranges}
 use Rattle.fontcut_c.specs.declared.answer.Answer.{Answer}
 use Rattle.fontcut_c.specs.declared.refusal.Refusal.{Refusal}
 use Rattle.fontcut_c.specs.declared.refusal.Refusal.TheVariants.{BadText, NoMemory, SmallRoom}
 
 -- each of these characters is in the ranges
 abbrev pub HaveCharacters : List CodeRange → List ℕ → Type 0
-HaveCharacters ranges letters = All (λ code. wanted_by ranges code ≡ true) letters
+HaveCharacters ranges letters = All (λ code. codes_of_ranges ranges code ≡ true) letters
 
 -- ranges that have each character of a text are in the room
 pub record AreNeededInRoom (text : List ℕ) (old new : List CodeRange) (size : ℕ) : Type 0 where

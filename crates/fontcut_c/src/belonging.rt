@@ -1,7 +1,7 @@
 //! Whether a file is a cut of a kind, and whether it is one of a font.
 ghost use Rattle.std.specs.Prelude.{◌≡◌, None, MatchResult};
 ghost use Rattle.font_file.specs.Font.{font_fault};
-ghost use Rattle.font_subset.specs.CutOfKind.{form_as};
+ghost use Rattle.font_subset.specs.CutOfKind.{kind_form};
 ghost use Rattle.font_theory.specs.Kinds.{fault_of};
 ghost use Rattle.fontcut_c.specs.Answers.{form_number};
 ghost use Rattle.fontcut_c.specs.Forms.{AnswersBelonging, AnswersForm, IsBelonging, RefusesForm, RefusesPair};
@@ -17,7 +17,7 @@ use std::alloc::Global;
 // Returns in which form an opened font is a cut of a kind.
 fn form_of_font(alloc: Global, kind: Kind, font: &Font<'_>) -> Result<CutForm, Refusal>
     requires { font_fault font.now ≡ None }
-    ensures { MatchResult result (λ form. (fault_of kind font.now ≡ None) × (form ≡ form_as kind font.now))
+    ensures { MatchResult result (λ form. (fault_of kind font.now ≡ None) × (form ≡ kind_form kind font.now))
         (RefusesForm kind font.now) }
 {
     let opened = FontOfKind::open(alloc, kind, font)?;
@@ -27,7 +27,7 @@ fn form_of_font(alloc: Global, kind: Kind, font: &Font<'_>) -> Result<CutForm, R
 // Returns in which form a file is a cut of a kind.
 #[tactic(auto, using(crate::proofs::CutLemmas::refused_for))]
 fn form_of(alloc: Global, kind: Kind, file: &[u8]) -> Result<CutForm, Refusal>
-    ensures { MatchResult result (λ form. (fault_of kind file.now ≡ None) × (form ≡ form_as kind file.now))
+    ensures { MatchResult result (λ form. (fault_of kind file.now ≡ None) × (form ≡ kind_form kind file.now))
         (RefusesForm kind file.now) }
 {
     let font = Font::open(file)?;

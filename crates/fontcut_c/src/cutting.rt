@@ -2,7 +2,7 @@
 ghost use Rattle.std.specs.Prelude.{◌≡◌, MatchResult, None, Some, length, true};
 ghost use Rattle.font_file.specs.Font.{font_fault};
 ghost use Rattle.fontcut_c.specs.Cutting.{AcceptsRequest, IsCutInRoom, RefusesAsked, RefusesSubset};
-ghost use Rattle.fontcut_c.specs.Inside.{IsOpened, IsOpenedFor, RefusesOpening, RefusesRequest};
+ghost use Rattle.fontcut_c.specs.Inside.{IsOpenedFile, IsOpenedForRequest, RefusesOpening, RefusesRequest};
 ghost use Rattle.fontcut_c.specs.Requests.{asked_by, has_checked};
 
 use crate::caller_room::write_to;
@@ -19,7 +19,7 @@ use std::alloc::Global;
 /// Opens a font, which is not tested where a sum of flags says that it was accepted before.
 pub(crate) fn opened<'a>(flags: u32, file: &'a [u8]) -> Result<Font<'a>, FontError>
     requires { has_checked flags ≡ true → font_fault file.now ≡ None }
-    ensures { MatchResult result (IsOpened file.now) (λ error. font_fault file.now ≡ Some error) }
+    ensures { MatchResult result (IsOpenedFile file.now) (λ error. font_fault file.now ≡ Some error) }
 {
     if is_checked(flags) {
         Ok(Font::open_checked(file))
@@ -67,7 +67,7 @@ pub(crate) fn opened_to_cut<'f, 'a>(
 ) -> Result<FontToCut<'f, 'a>, Refusal>
     requires { font_fault font.now ≡ None }
     ensures { MatchResult result
-        (λ opened. IsOpenedFor kind font.entry.now (asked_by request.now) opened)
+        (λ opened. IsOpenedForRequest kind font.entry.now (asked_by request.now) opened)
         (RefusesOpening kind font.entry.now (asked_by request.now)) }
 {
     let opened = FontToCut::open(alloc, kind, request.closes() && keeps_layout(kind), font)?;

@@ -2,7 +2,7 @@
 ghost use Rattle.std.specs.Prelude.{◌≡◌, ◌<◌, ◌≤◌, ◌++◌, MatchOption, MatchResult, None, drop, length, true};
 ghost use Rattle.font_file.specs.Font.{font_fault};
 ghost use Rattle.font_tables.specs.Fields.{glyph_count_of};
-ghost use Rattle.fontcut_c.specs.Glyphs.{AreGlyphs, AreMetricsInRoom, IsFirstNoGlyph, RefusesMetrics, metric_in, metrics_of};
+ghost use Rattle.fontcut_c.specs.Glyphs.{AreGlyphs, AreMetricsInRoom, IsFirstNoGlyph, RefusesMetrics, written_metric, metrics_of};
 ghost use Rattle.fontcut_c.specs.Requests.{has_checked};
 
 use crate::cutting::opened;
@@ -35,7 +35,7 @@ pub(crate) fn first_no_glyph(font: &Font<'_>, glyphs: &[u16]) -> Option<usize>
 // Returns the metrics of a glyph.
 fn metric_of_glyph(font: &Font<'_>, glyph: u16) -> Metric
     requires { glyph < glyph_count_of font.now }
-    ensures { result ≡ metric_in font.now glyph }
+    ensures { result ≡ written_metric font.now glyph }
 {
     let (advance, bearing) = font.metric(glyph);
     Metric { advance, bearing }

@@ -2,7 +2,7 @@
 //! Mapping Table.
 ghost use Rattle.std.specs.Prelude.{◌≡◌, ◌≤◌, ◌++◌, MatchResult, None, drop, length, true};
 ghost use Rattle.font_file.specs.Font.{font_fault, map_of};
-ghost use Rattle.fontcut_c.specs.Glyphs.{AreGlyphsInRoom, RefusesGlyphs, glyphs_of};
+ghost use Rattle.fontcut_c.specs.Glyphs.{AreGlyphsInRoom, RefusesGlyphs, glyphs_of_codes};
 ghost use Rattle.fontcut_c.specs.Inside.{IsChartOf};
 ghost use Rattle.fontcut_c.specs.Requests.{has_checked};
 
@@ -41,7 +41,7 @@ fn glyph_by(font: &Font<'_>, chart: &Option<Chart<'_>>, code: u32) -> u16
 fn put_glyphs(font: &Font<'_>, chart: &Option<Chart<'_>>, codes: &[u32], out: &mut [u16])
     requires same { IsChartOf font.now chart.now }
     requires room { length codes.now ≤ length out.old }
-    ensures { out.new ≡ glyphs_of font.now codes.now ++ drop (length codes.now) out.old }
+    ensures { out.new ≡ glyphs_of_codes font.now codes.now ++ drop (length codes.now) out.old }
 {
     for index in 0..codes.len() {
         out[index] = glyph_by(font, chart, codes[index]);

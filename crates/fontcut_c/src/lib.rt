@@ -3,10 +3,10 @@
 #![tactic(auto)]
 
 mod answer;
-mod any_error;
 mod belonging;
 mod caller_room;
 mod cutting;
+mod errors;
 mod filled;
 mod glyph_metrics;
 mod glyph_sets;
@@ -26,26 +26,25 @@ mod wanted_set;
 
 ghost use Rattle.std.specs.Prelude.{◌≡◌, ◌≢◌, IfErr, None, length, map, true};
 ghost use Rattle.std.specs.List.{concat};
-ghost use Rattle.commands.specs.Run.{HoldsOfFont, cut_for};
+ghost use Rattle.commands.specs.Run.{HoldsOfFont, requested_cut};
 ghost use Rattle.font_file.specs.Font.{font_fault};
 ghost use Rattle.font_theory.specs.Kinds.{format_of};
 ghost use Rattle.fontcut_c.specs.Answers.{IsInRoom, check_answer, size_answer, stepped_answer};
 ghost use Rattle.fontcut_c.specs.ManyCuts.{AnswersSubsets, cuts_for};
 ghost use Rattle.fontcut_c.specs.Cutting.{AnswersSubset};
 ghost use Rattle.fontcut_c.specs.Forms.{AnswersBelonging, AnswersForm};
-ghost use Rattle.fontcut_c.specs.GlyphSets.{AnswersClosure, AnswersKept, IsForClosedCut, closure_of, kept_of};
-ghost use Rattle.fontcut_c.specs.Glyphs.{AnswersGlyphs, AnswersLookUp, AnswersMetrics, glyphs_of, metrics_of};
+ghost use Rattle.fontcut_c.specs.GlyphSets.{HasShaped, AnswersClosure, AnswersKept, IsForClosedCut, closure_of, kept_of};
+ghost use Rattle.fontcut_c.specs.Glyphs.{AnswersGlyphs, AnswersLookUp, AnswersMetrics, glyphs_of_codes, metrics_of};
 ghost use Rattle.fontcut_c.specs.Info.{info_of};
 ghost use Rattle.fontcut_c.specs.Joining.{AnswersJoin, IsJoinInRoom};
 ghost use Rattle.fontcut_c.specs.KindNumbers.{AnswersInKind, HoldsInKind};
 ghost use Rattle.fontcut_c.specs.Lost.{AnswersLost};
 ghost use Rattle.fontcut_c.specs.Mapped.{AnswersCodes};
 ghost use Rattle.fontcut_c.specs.Requests.{AnswersRead, HoldsRead, asked_at, asked_by, has_checked, read, read_all, request_of};
-ghost use Rattle.fontcut_c.specs.Text.{AnswersText, NamesFile, answer_text, check_text, refusal_text};
+ghost use Rattle.fontcut_c.specs.Text.{AnswersText, NamesFile, answer_text, font_fault_text, refusal_text};
 ghost use Rattle.fontcut_c.specs.TextRanges.{AnswersNeeded, AnswersRanges};
 
 pub use crate::answer::Answer;
-pub use crate::any_error::AnyError;
 use crate::belonging::{belonging_answer, form_answer};
 use crate::cutting::cut_to;
 pub use crate::glyph_metrics::Metric;
@@ -75,7 +74,7 @@ use std::alloc::Global;
 #[tactic(auto, unfolding(crate::specs::Errors::error_of, crate::specs::Errors::font_error_of, crate::specs::Errors::join_error_of, crate::specs::Text::refusal_text))]
 pub extern "C" fn fontcut_check(font: &[u8]) -> Answer
     ensures exact { result ≡ check_answer (font_fault font.now) }
-    ensures text { refusal_text result ≡ check_text (font_fault font.now) }
+    ensures text { refusal_text result ≡ font_fault_text (font_fault font.now) }
 {
     match Font::open(font) {
         Ok(_) => Answer::done(0),
@@ -119,7 +118,7 @@ pub extern "C" fn fontcut_subset(
     ensures exact { let a = asked_by request.now in AnswersRead (read a) result
         (λ k. AnswersSubset k font.now a out.old out.new result) }
     ensures done { let a = asked_by request.now in result.status ≡ 0 → HoldsRead (read a)
-        (λ k. IsInRoom (cut_for (request_of k a) font.now) out.old out.new result.size) }
+        (λ k. IsInRoom (requested_cut (request_of k a) font.now) out.old out.new result.size) }
     ensures holds { let a = asked_by request.now in result.status ≡ 0 → HoldsRead (read a)
         (λ k. HoldsOfFont (request_of k a) font.now) }
     ensures untouched { result.status ≢ 0 → out.new ≡ out.old }
@@ -227,7 +226,8 @@ pub extern "C" fn fontcut_glyphs(
 ) -> Answer
     requires { has_checked flags ≡ true → font_fault font.now ≡ None }
     ensures exact { AnswersLookUp flags result (AnswersGlyphs font.now codes.now out.old out.new result) }
-    ensures done { result.status ≡ 0 → IsInRoom (glyphs_of font.now codes.now) out.old out.new result.size }
+    ensures done { result.status ≡ 0 →
+        IsInRoom (glyphs_of_codes font.now codes.now) out.old out.new result.size }
     ensures untouched { result.status ≢ 0 → out.new ≡ out.old }
 {
     if flags != 0 && flags != 2 {
@@ -256,6 +256,8 @@ pub extern "C" fn fontcut_closure(
         (λ k. IsInRoom (closure_of k font.now a) out.old out.new result.size) }
     ensures closes { let a = asked_by request.now in result.status ≡ 0 → HoldsRead (read a)
         (λ k. IsForClosedCut k font.now a) }
+    ensures shapes { let a = asked_by request.now in result.status ≡ 0 → HoldsRead (read a)
+        (λ k. HasShaped k font.now a) }
     ensures untouched { result.status ≢ 0 → out.new ≡ out.old }
 {
     match request.read() {

@@ -3,11 +3,11 @@ ghost use Rattle.std.specs.Prelude.{◌≡◌, ◌<◌, ◌≤◌, ◌++◌, ◌
 ghost use Rattle.std.specs.List.{concat, list_all};
 ghost use Rattle.std.specs.Option.{option_map};
 ghost use Rattle.font_file.specs.Font.{font_fault};
-ghost use Rattle.font_subset.specs.CutOfKind.{cut_as};
+ghost use Rattle.font_subset.specs.CutOfKind.{opened_font_cut};
 ghost use Rattle.font_subset.specs.KeptGlyphs.{asked, glyphs_wanted};
-ghost use Rattle.fontcut_c.specs.ManyCuts.{AcceptsAll, AreCutsInRoom, AreInRoom, AreSmall, IsFirstLarge, RefusesOne, RefusesSubsets, size_of_all};
-ghost use Rattle.fontcut_c.specs.Inside.{RefusesAll, RefusesCuts, RefusesFiles, cut_of_set, cut_opened, files_of};
-ghost use Rattle.fontcut_c.specs.Requests.{asked_at, asked_by, has_checked, is_like, wanted_by};
+ghost use Rattle.fontcut_c.specs.ManyCuts.{AcceptsAll, AreCutsInRoom, AreInRoom, AreSmallFiles, IsFirstLarge, RefusesOne, RefusesSubsets, size_of_all};
+ghost use Rattle.fontcut_c.specs.Inside.{RefusesAll, RefusesCuts, RefusesFiles, cut_of_set, wished_cut, files_of};
+ghost use Rattle.fontcut_c.specs.Requests.{asked_at, asked_by, has_checked, is_like, codes_of_ranges};
 
 use crate::caller_room::fill_at;
 use crate::cutting::{check_request, opened, opened_to_cut};
@@ -66,7 +66,7 @@ fn push_set(
     sets: &mut Vec<WantedSet>,
 ) -> Result<(), NoMemory>
     ensures { OnOk result (map (cut_of_set font.now) sets.new.items ≡ map (cut_of_set font.now) sets.old.items
-        ++ cut_opened font.now (asked_by request.now) ∷ []) }
+        ++ wished_cut font.now (asked_by request.now) ∷ []) }
 {
     sets.push(wanted_set(alloc, font, request)?)
         .map_err(|_| NoMemory)
@@ -79,7 +79,7 @@ fn sets_in(
     requests: &[Request<'_>],
 ) -> Result<Vec<WantedSet>, NoMemory>
     ensures { IfOk result (λ sets. map (cut_of_set font.now) sets.items
-        ≡ map (cut_opened font.now) (map asked_by requests.now)) }
+        ≡ map (wished_cut font.now) (map asked_by requests.now)) }
 {
     let mut sets = Vec::new(alloc);
     for index in 0..requests.len() {
@@ -110,7 +110,7 @@ fn sources_of<'f, 'a>(
 // Returns how many bytes the files of all sources have, or the length of the first that is too large.
 fn measured_all<S: Source>(sources: &[S]) -> Result<u64, u64>
     ensures { let files = files_of S.content_of sources.now in
-        MatchResult result (λ size. AreSmall files × (size ≡ size_of_all files)) (IsFirstLarge files) }
+        MatchResult result (λ size. AreSmallFiles files × (size ≡ size_of_all files)) (IsFirstLarge files) }
 {
     let mut total: u64 = 0;
     for index in 0..sources.len() {
@@ -123,7 +123,7 @@ fn measured_all<S: Source>(sources: &[S]) -> Result<u64, u64>
 // Writes the files of all sources end to end to the front of room that is large enough, and their lengths to
 // sizes. It asks for no memory. Returns the sum of the lengths.
 fn put_all<S: Source>(sources: &[S], out: &mut [u8], sizes: &mut [u64]) -> u64
-    requires small { AreSmall (files_of S.content_of sources.now) }
+    requires small { AreSmallFiles (files_of S.content_of sources.now) }
     requires room { length (concat (files_of S.content_of sources.now)) ≤ length out.old }
     requires places { length sizes.old ≡ length sources.now }
     ensures { AreInRoom (files_of S.content_of sources.now) out.old out.new sizes.new result }

@@ -2,21 +2,22 @@
 ghost use Rattle.std.specs.Prelude.{◌≡◌, ℕ, Some};
 ghost use Rattle.std.specs.Int.{to_be_bytes, w32};
 ghost use Rattle.sfnt_bytes.specs.Tag.{tag_number};
-ghost use Rattle.font_file.specs.Text.{error_number};
+ghost use Rattle.font_file.specs.Text.{font_error_number};
 ghost use Rattle.font_join.specs.JoinText.{join_all_error_text, join_error_text};
-ghost use Rattle.fontcut_c.specs.Answers.{as_detail, at_step, font_answer, font_argument, join_all_error_answer, join_error_answer, of_open_error, refusal_answer};
+ghost use Rattle.fontcut_c.specs.Answers.{as_detail, at_step, font_answer, font_argument, join_all_error_answer, join_error_answer, refusal_of_open, refusal_answer};
 ghost use Rattle.fontcut_c.specs.Errors.{error_of, font_error_of};
 ghost use Rattle.fontcut_c.specs.Text.{NamesByItsStep, NamesByStep, NamesFile, refusal_text, text_of_refusal};
-ghost use Rattle.fontcut_c.specs.declared.any_error.AnyError.TheVariants.{Font};
 ghost use Rattle.fontcut_c.specs.declared.refusal.Refusal.TheVariants.{Font as FontRefused, Join as JoinRefused, NoMemory as MemoryRefused};
 
 use crate::answer::Answer;
+use codes::WantedError;
 use font_file::FontError;
 use font_join::{JoinAllError, JoinError};
 use font_subset::OpenError;
 use font_tables::TableError;
 use sfnt_bytes::{DirError, NoMemory, Tag, numbers};
 use std::alloc::AllocError;
+use std::fmt;
 
 /// The status of a room that is too small.
 const SMALL_ROOM: u8 = 100;
@@ -48,6 +49,22 @@ pub enum Refusal {
     TooLarge(u64),
     /// There is this number of bytes, ranges, glyphs or metrics, which is more than there is room for.
     SmallRoom(u64),
+}
+
+impl fmt::Display for Refusal {
+    ghost output = { λ refusal. Some (text_of_refusal refusal) };
+
+    fn fmt<W: fmt::Write>(&self, f: &mut fmt::Formatter<W>) -> fmt::Result {
+        match self {
+            Refusal::Font(error) | Refusal::Second(error) => write!(f, "{error}"),
+            Refusal::Join(error) => write!(f, "{error}"),
+            Refusal::BadRange(_) => write!(f, "{}", WantedError::BadRange),
+            Refusal::NoMemory => write!(f, "{}", WantedError::NoMemory),
+            Refusal::TooLarge(size) => write!(f, "{}", JoinError::TooLarge(*size)),
+            // What is of one call alone has a number, and no text.
+            Refusal::BadText(_) | Refusal::NoGlyph(_) | Refusal::SmallRoom(_) => Ok(()),
+        }
+    }
 }
 
 impl From<FontError> for Refusal {
@@ -83,7 +100,7 @@ impl From<AllocError> for Refusal {
 }
 
 impl From<OpenError> for Refusal {
-    ghost from_gives = { λ held refusal. refusal ≡ of_open_error held };
+    ghost from_gives = { λ held refusal. refusal ≡ refusal_of_open held };
 
     fn from(error: OpenError) -> Refusal {
         match error {
@@ -106,9 +123,10 @@ fn number_of(tag: Tag) -> u32
 #[tactic(auto, unfolding(crate::specs::Errors::font_error_of))]
 fn argument_of(error: FontError) -> u32
     ensures exact { result ≡ font_argument error }
-    ensures back { font_error_of (error_number error) result ≡ Some error }
+    ensures back { font_error_of (font_error_number error) result ≡ Some error }
 {
     match error {
+        // Written by tools/write_refusals from include/refusals.txt:
         FontError::Directory(DirError::DuplicateTable(tag)) => number_of(tag),
         FontError::Directory(DirError::TableOutOfFile(tag)) => number_of(tag),
         FontError::Directory(_) => 0,
@@ -119,6 +137,7 @@ fn argument_of(error: FontError) -> u32
         FontError::BadGlyph(glyph) => u32::from(glyph),
         FontError::BadLayout => 0,
         FontError::BadVariations => 0,
+        // End of what tools/write_refusals writes.
     }
 }
 
@@ -126,7 +145,7 @@ fn argument_of(error: FontError) -> u32
 #[tactic(auto, unfolding(crate::specs::Errors::error_of))]
 fn refused_font(error: FontError) -> Answer
     ensures exact { result ≡ font_answer error }
-    ensures back { (step : ℕ) → error_of (at_step step result) ≡ Some (Font error) }
+    ensures back { (step : ℕ) → error_of (at_step step result) ≡ Some (FontRefused error) }
 {
     Answer::refused(error.number(), argument_of(error))
 }
@@ -152,11 +171,13 @@ fn refused_join(error: JoinError) -> Answer
     let number = error.number();
     match error {
         JoinError::Font(_, error) => refused_font(error),
+        // Written by tools/write_refusals from include/refusals.txt:
+        JoinError::TooLarge(size) => Answer::sized(number, size),
         JoinError::DifferentTable(tag) => Answer::refused(number, number_of(tag)),
         JoinError::DifferentMapping(code) => Answer::refused(number, code),
         JoinError::DifferentGlyph(glyph) => Answer::refused(number, u32::from(glyph)),
         JoinError::TableTooLong(tag) => Answer::refused(number, number_of(tag)),
-        JoinError::TooLarge(size) => Answer::sized(number, size),
+        // End of what tools/write_refusals writes.
         JoinError::NotACut(_) | JoinError::NoMemory => Answer::refused(number, 0),
     }
 }

@@ -1,10 +1,10 @@
 //! The texts of refusals, by what was answered.
 ghost use Rattle.std.specs.Prelude.{◌≡◌, ◌<◌, MatchResult, length};
 ghost use Rattle.fontcut_c.specs.Answers.{IsInRoom};
-ghost use Rattle.fontcut_c.specs.Text.{RefusesText, refusal_text};
+ghost use Rattle.fontcut_c.specs.Text.{IsTextRefusal, refusal_text};
 
 use crate::answer::Answer;
-use crate::any_error::error_of;
+use crate::errors::error_of;
 use crate::refusal::Refusal;
 use std::alloc::Global;
 
@@ -25,7 +25,7 @@ fn put_front(bytes: &[u8], out: &mut [u8]) -> Result<u64, u64>
 #[tactic(auto, unfolding(crate::specs::Text::refusal_text))]
 pub(crate) fn text_to(alloc: Global, answer: Answer, out: &mut [u8]) -> Result<u64, Refusal>
     ensures { MatchResult result (IsInRoom (refusal_text answer) out.old out.new)
-        (λ refusal. (out.new ≡ out.old) × RefusesText answer (length out.old) refusal) }
+        (λ refusal. (out.new ≡ out.old) × IsTextRefusal answer (length out.old) refusal) }
 {
     let Some(error) = error_of(answer) else {
         return Ok(0);

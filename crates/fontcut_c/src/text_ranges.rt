@@ -3,7 +3,7 @@ ghost use Rattle.std.specs.Prelude.{◌≡◌, IfErr, IfOk, MatchResult, chars, 
 ghost use Rattle.codes.specs.Wanted.{member};
 ghost use Rattle.fontcut_c.specs.Answers.{IsInRoom};
 ghost use Rattle.fontcut_c.specs.Inside.{IsBadText, RefusesRoom};
-ghost use Rattle.fontcut_c.specs.Requests.{wanted_by};
+ghost use Rattle.fontcut_c.specs.Requests.{codes_of_ranges};
 ghost use Rattle.fontcut_c.specs.TextRanges.{AreNeededInRoom, AreRangesInRoom, HaveCharacters, RefusesNeeded, RefusesRanges};
 
 use crate::refusal::Refusal;
@@ -71,7 +71,7 @@ fn add_characters(
     text: &str,
     ranges: &mut Vec<CodeRange>,
 ) -> Result<(), AllocError>
-    requires { member wanted.now ≡ wanted_by ranges.old.items }
+    requires { member wanted.now ≡ codes_of_ranges ranges.old.items }
     ensures { IfOk result (λ _. HaveCharacters ranges.new.items (chars text.now)) }
 {
     for letter in text.chars() {

@@ -3,7 +3,7 @@ ghost use Rattle.std.specs.Prelude.{◌≡◌, ◌<◌, ℕ, MatchOption, IfOk};
 ghost use Rattle.std.specs.List.Sorted.{IsPermutation};
 ghost use Rattle.codes.specs.Wanted.{member};
 ghost use Rattle.fontcut_c.specs.Cutting.{AreGood, IsFirstBad};
-ghost use Rattle.fontcut_c.specs.Requests.{wanted_by};
+ghost use Rattle.fontcut_c.specs.Requests.{codes_of_ranges};
 
 use codes::{CodeRange, LAST_CODE, Wanted};
 use sfnt_bytes::NoMemory;
@@ -24,7 +24,7 @@ pub(crate) fn first_bad(ranges: &[CodeRange]) -> Option<usize>
 
 // Returns the codes of ranges of which none is bad, each added after those before it.
 fn added(alloc: Global, ranges: &[CodeRange]) -> Result<Wanted, NoMemory>
-    ensures { IfOk result (λ wanted. member wanted ≡ wanted_by ranges.now) }
+    ensures { IfOk result (λ wanted. member wanted ≡ codes_of_ranges ranges.now) }
 {
     let mut wanted = Wanted::new(alloc);
     for range in ranges {
@@ -56,7 +56,7 @@ fn sorted(alloc: Global, ranges: &[CodeRange]) -> Result<Vec<CodeRange>, NoMemor
 /// Returns the codes of ranges of which none is bad. They are added in the order in which they begin: a range in front of
 /// many others moves all of them.
 pub(crate) fn wanted_of(alloc: Global, ranges: &[CodeRange]) -> Result<Wanted, NoMemory>
-    ensures { IfOk result (λ wanted. member wanted ≡ wanted_by ranges.now) }
+    ensures { IfOk result (λ wanted. member wanted ≡ codes_of_ranges ranges.now) }
 {
     if ascends(ranges) {
         return added(alloc, ranges);

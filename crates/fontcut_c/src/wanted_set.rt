@@ -2,7 +2,7 @@
 ghost use Rattle.std.specs.Prelude.{◌≡◌, Some, IfOk};
 ghost use Rattle.std.specs.Option.{option_map};
 ghost use Rattle.font_subset.specs.KeptGlyphs.{asked};
-ghost use Rattle.fontcut_c.specs.Inside.{cut_of_set, cut_opened};
+ghost use Rattle.fontcut_c.specs.Inside.{cut_of_set, wished_cut};
 ghost use Rattle.fontcut_c.specs.Requests.{asked_by};
 
 use crate::requests::Request;
@@ -26,7 +26,7 @@ pub(crate) fn wanted_set(
     font: &FontToCut<'_, '_>,
     request: &Request<'_>,
 ) -> Result<WantedSet, NoMemory>
-    ensures { IfOk result (λ set. cut_of_set font.now set ≡ cut_opened font.now (asked_by request.now)) }
+    ensures { IfOk result (λ set. cut_of_set font.now set ≡ wished_cut font.now (asked_by request.now)) }
 {
     let codes = wanted_of(alloc, request.wanted_ranges())?;
     let numbers = font.numbers(alloc, Some(&codes), Some(request.wanted_glyphs()))?;

@@ -1,88 +1,92 @@
 //! The numbers of all refusals, this project's own. No number is used twice, and none changes.
 
-/// The file has more bytes than a file may have.
+// Written by tools/write_refusals from include/refusals.txt:
+
+/// `file too large`: the file has more than 134,217,728 bytes.
 pub const FILE_TOO_LARGE: u8 = 1;
 
-/// The file ends within its table directory.
+/// `truncated`: it ends within its table directory.
 pub const TRUNCATED: u8 = 2;
 
-/// The file is a collection of fonts.
+/// `collection`: it is a collection of fonts.
 pub const COLLECTION: u8 = 3;
 
-/// The file is no font with TrueType outlines.
+/// `not TrueType`: it is no font with TrueType outlines.
 pub const NOT_TRUETYPE: u8 = 4;
 
-/// A table stands twice in the directory.
+/// `duplicate table TAG`: a table stands twice.
 pub const DUPLICATE_TABLE: u8 = 5;
 
-/// A table does not lie within the file.
+/// `table out of file TAG`: a table does not lie within the file.
 pub const TABLE_OUT_OF_FILE: u8 = 6;
 
-/// A table that every font must have is missing.
+/// `missing table TAG`: a table that every font must have is missing.
 pub const MISSING_TABLE: u8 = 7;
 
-/// A field of `head` has a value that is not accepted, or `head` is too short.
+/// `bad head`: head is too short, or has a value that it cannot have.
 pub const BAD_HEAD: u8 = 8;
 
-/// A field of `maxp` has a value that is not accepted, or `maxp` is too short.
+/// `bad maxp`: maxp is too short, or has a value that it cannot have.
 pub const BAD_MAXP: u8 = 9;
 
-/// A field of `hhea` has a value that is not accepted, or `hhea` is too short.
+/// `bad hhea`: hhea is too short, or has a value that it cannot have.
 pub const BAD_HHEA: u8 = 10;
 
-/// `hmtx` is too short for the metrics of all glyphs.
+/// `bad hmtx`: hmtx is too short.
 pub const BAD_HMTX: u8 = 11;
 
-/// An offset of `loca` is out of order or past the end of `glyf`, or `loca` is too short.
+/// `bad loca at J`: detail: the least index of a bad offset.
 pub const BAD_LOCA: u8 = 12;
 
-/// `cmap` has no subtable of format 4 or 12 for Unicode.
+/// `no mapping`: there is no subtable of format 4 or 12 for Unicode.
 pub const NO_MAPPING: u8 = 13;
 
-/// `cmap` or the chosen subtable of it cannot be read.
+/// `bad cmap`: the chosen subtable of cmap is broken.
 pub const BAD_CMAP: u8 = 14;
 
-/// A range of codes ends before it begins, or after the last code point.
+/// `bad range`: a range is bad.
 pub const BAD_RANGE: u8 = 15;
 
-/// There is not enough memory.
+/// `no memory`: there is not enough memory.
 pub const NO_MEMORY: u8 = 16;
 
-/// The record of a glyph cannot be read.
+/// `bad glyph G`: detail: the least glyph whose record is bad.
 pub const BAD_GLYPH: u8 = 17;
 
-/// A file that is to be written would have more bytes than a file may have.
+/// `too large N`: what is to be written would be too large for a file; size: its bytes.
 pub const TOO_LARGE: u8 = 18;
 
-/// A writer fails.
+/// `write fault after N`.
 pub const WRITE_FAULT: u8 = 19;
 
-/// A file to be joined is a font, but no cut.
+/// `not a cut: first, not a cut: second`: the file is a font, but no cut; step: its index.
 pub const NOT_A_CUT: u8 = 20;
 
-/// Files to be joined differ in a table.
+/// `different table TAG`: the files differ in a table.
 pub const DIFFERENT_TABLE: u8 = 21;
 
-/// Files to be joined map one code to two glyphs.
+/// `different mapping U+X`: they map a code to two glyphs.
 pub const DIFFERENT_MAPPING: u8 = 22;
 
-/// Files to be joined keep a glyph that differs: its outline, or what cuts of their kind have of it besides.
+/// `different glyph G`: a glyph that both keep differs.
 pub const DIFFERENT_GLYPH: u8 = 23;
 
-/// There is no file to be joined.
+/// `nothing to join`: there is no file.
 pub const NOTHING_TO_JOIN: u8 = 24;
 
-/// A reader fails.
+/// `read fault after N`.
 pub const READ_FAULT: u8 = 25;
 
-/// A text names no range of codes.
+/// `bad word`.
 pub const BAD_WORD: u8 = 26;
 
-/// `GSUB` cannot be read, which is asked where the links of a layout or variable cut are followed.
+/// `bad layout`: GSUB cannot be read, which is asked where its links are followed alone.
 pub const BAD_LAYOUT: u8 = 27;
 
-/// `gvar` cannot be read, which is asked for variable cuts alone.
+/// `bad variations`: gvar cannot be read, which is asked for variable cuts alone.
 pub const BAD_VARIATIONS: u8 = 28;
 
-/// What files to be joined have of single glyphs in a table is too long for that table.
+/// `table too long TAG`: the parts of both do not fit in a table.
 pub const TABLE_TOO_LONG: u8 = 29;
+
+// End of what tools/write_refusals writes.

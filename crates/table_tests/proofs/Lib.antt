@@ -1,1 +1,2 @@
 pub mod RecordsLemmas
+pub mod ToyLemmas

@@ -2,10 +2,10 @@
 use Rattle.std.proofs.Common.{◌≡◌, ℕ, ◌<◌, List, [], length, get_or, sym, ap, ◌∙◌, Vec}
 use Rattle.std.specs.declared.alloc.Global.{Global}
 use Rattle.std.proofs.lemmas.List.{get_or-map, length-map}
-use Rattle.table_tests.specs.Records.{bytes_of, record_in}
+use Rattle.table_tests.specs.Records.{bytes_of, listed_record}
 
 pub record_in-read : (records : List (Vec ℕ Global)) (g : ℕ) (v : Vec ℕ Global) → g < length records
-    → v ≡ get_or records g v → v.items ≡ record_in (bytes_of records) g
+    → v ≡ get_or records g v → v.items ≡ listed_record (bytes_of records) g
 record_in-read records g v low read = ap (λ (r : Vec ℕ Global). r.items) read
     ∙ sym (get_or-map (λ (r : Vec ℕ Global). r.items) records g v [] low)
 

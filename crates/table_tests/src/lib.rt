@@ -3,8 +3,10 @@
 #![tactic(auto)]
 
 mod records;
+mod toys;
 
 pub use crate::records::Records;
+pub use crate::toys::Toys;
 
 #[cfg(test)]
 mod base6;
@@ -18,6 +20,8 @@ mod fonts;
 mod layouts;
 #[cfg(test)]
 mod links;
+#[cfg(test)]
+mod parted_toys;
 #[cfg(test)]
 mod refusals_of_memory;
 #[cfg(test)]

@@ -1,6 +1,6 @@
 //! Records in a list.
 ghost use Rattle.std.specs.Prelude.{◌≡◌, ◌↔◌, length, IsSome, IfSome};
-ghost use Rattle.table_tests.specs.Records.{AreRecords, bytes_of, record_in};
+ghost use Rattle.table_tests.specs.Records.{AreRecords, bytes_of, listed_record};
 
 use font_glyph::{Outlines, check_record};
 use std::marker::Model;
@@ -44,7 +44,7 @@ impl Records {
 impl Outlines for Records {
     ghost count_of = { length };
 
-    ghost record_at = { record_in };
+    ghost record_at = { listed_record };
 
     fn count(&self) -> u16 {
         self.records.len() as u16

@@ -39,7 +39,9 @@ fn memory_for_a_gvar(rt: HostRuntime) -> Result<(), Fail> {
             let table = answer?;
             assert_eq!(rt; memory.requests(), 1);
             assert_eq!(rt; table.as_slice(), LONG_TABLE.as_slice());
-            let read = Variations::open(&table, Some(&FVAR), 2)?;
+            let Some(read) = Variations::open(&table, Some(&FVAR), 2) else {
+                panic!(rt; "a table that was made is refused")
+            };
             assert_eq!(rt; read.data(1), SECOND.as_slice());
             return Ok(());
         }

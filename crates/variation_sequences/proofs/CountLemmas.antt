@@ -8,11 +8,12 @@ use Rattle.std.proofs.lemmas.Bool.{and_parts, cases_Bool, leb-true}
 use Rattle.std.proofs.lemmas.Bool.Decides.{nat_tests}
 use Rattle.std.proofs.lemmas.List.Sums.{sum_by-cons, sum_by-le-sum_by}
 use Rattle.codes.specs.declared.code_points.TheConstants.{CODES}
-use Rattle.variation_sequences.specs.Format14.{list_count, mapping_code, mappings_of, range_first, range_last}
-use Rattle.variation_sequences.specs.Format14.{range_more}
-use Rattle.variation_sequences.specs.Format14.{mapping_glyph, ranges_of, selector_at, selector_count}
+use Rattle.variation_sequences.specs.Format14.{default_ranges, list_count, mapping_code, mapping_glyph}
+use Rattle.variation_sequences.specs.Format14.{mappings_of, range_first, range_last, range_more, selector_at}
+use Rattle.variation_sequences.specs.Format14.{selector_count}
 use Rattle.variation_sequences.specs.Spans.{has_code, member_with}
-use Rattle.variation_sequences.specs.Sequences.{entries_from, entries_in, entries_of, entries_of_record, variant_in}
+use Rattle.variation_sequences.specs.Sequences.{entries_from_record, entries_in, entries_of, entries_of_record}
+use Rattle.variation_sequences.specs.Sequences.{variant_in}
 use Rattle.variation_sequences.specs.Strict.{codes_in, entries_under, entry_count, is_strict, mapping_with, range_with}
 use Rattle.variation_sequences.specs.declared.strict.TheConstants.{MAX_ENTRIES}
 use Rattle.variation_sequences.specs.declared.variant.Entry.{Entry}
@@ -173,7 +174,7 @@ in_few v t u from = tables_few v t u from (CODES - from)
 
 record_few : (s : List ℕ) (k : ℕ) → length (entries_of_record s k) ≤ entries_under s k
 unfolding entries_under
-record_few s k = in_few (selector_at s k) (ranges_of s k) (mappings_of s k) 0
+record_few s k = in_few (selector_at s k) (default_ranges s k) (mappings_of s k) 0
 
 -- and of all records
 all_few : {X : Type 0} (f : ℕ → List X) (most : ℕ → ℕ) (ks : List ℕ) → ((k : ℕ) → length (f k) ≤ most k)
@@ -182,9 +183,9 @@ all_few f most [] few = omega arith
 all_few f most (k ∷ ks) few =
     omega (arith, few k, all_few f most ks few, length-append (f k) (flat_map f ks), sum_by-cons most k ks)
 
-from_few : (s : List ℕ) (k : ℕ) → length (entries_from s k)
+from_few : (s : List ℕ) (k : ℕ) → length (entries_from_record s k)
     ≤ sum_by (entries_under s) (range_with_len k (selector_count s - k))
-unfolding entries_from
+unfolding entries_from_record
 from_few s k =
     all_few (entries_of_record s) (entries_under s) (range_with_len k (selector_count s - k)) (record_few s)
 
@@ -192,7 +193,8 @@ of_few : (s : List ℕ) → length (entries_of s) ≤ entry_count s
 unfolding entries_of entry_count
 of_few s =
     let all : selector_count s - 0 ≡ selector_count s = omega arith in
-    subst (λ (n : ℕ). length (entries_from s 0) ≤ sum_by (entries_under s) (range_with_len 0 n)) all (from_few s 0)
+    subst (λ (n : ℕ). length (entries_from_record s 0) ≤ sum_by (entries_under s) (range_with_len 0 n)) all
+    (from_few s 0)
 
 pub few_entries : (s : List ℕ) → is_strict s ≡ true → length (entries_of s) ≤ MAX_ENTRIES
 unfolding is_strict

@@ -9,8 +9,8 @@ use Rattle.codes.specs.declared.code_points.TheConstants.{CODES}
 use Rattle.variation_sequences.specs.Format14.{list_count, mapping_code, mapping_glyph, range_first, range_last}
 use Rattle.variation_sequences.specs.Format14.{selector_count}
 use Rattle.variation_sequences.specs.Inside.{IsFirstVariant, IsNextCode, NoVariant}
-use Rattle.variation_sequences.specs.Spans.{is_above, is_ascending, member_with}
-use Rattle.variation_sequences.specs.Sequences.{entries_from, entries_in, entries_of_record, variant_in}
+use Rattle.variation_sequences.specs.Spans.{are_ascending, is_above, member_with}
+use Rattle.variation_sequences.specs.Sequences.{entries_from_record, entries_in, entries_of_record, variant_in}
 use Rattle.variation_sequences.specs.Strict.{mapping_with, range_with}
 use Rattle.variation_sequences.specs.declared.variant.Entry.{Entry}
 use Rattle.variation_sequences.specs.declared.variant.Variant.{Variant}
@@ -121,13 +121,13 @@ pub no_list_count : list_count (0 ∷ 0 ∷ 0 ∷ 0 ∷ []) ≡ 0
 unfolding list_count u32_at
 no_list_count = refl
 
-none_ascend : (first last : ℕ → ℕ) (n : ℕ) → n ≡ 0 → is_ascending first last n ≡ true
-unfolding is_ascending
+none_ascend : (first last : ℕ → ℕ) (n : ℕ) → n ≡ 0 → are_ascending first last n ≡ true
+unfolding are_ascending
 none_ascend first last n e = ap (λ (k : ℕ). list_all (is_above first last) (range_with_len 0 k)) e
 
 pub no_list_ascends : (t u : List ℕ) → t ≡ 0 ∷ 0 ∷ 0 ∷ 0 ∷ [] → u ≡ 0 ∷ 0 ∷ 0 ∷ 0 ∷ []
-    → (is_ascending (range_first t) (range_last t) (list_count t) ≡ true)
-    × (is_ascending (mapping_code u) (mapping_code u) (list_count u) ≡ true)
+    → (are_ascending (range_first t) (range_last t) (list_count t) ≡ true)
+    × (are_ascending (mapping_code u) (mapping_code u) (list_count u) ≡ true)
 no_list_ascends t u e f = (
   none_ascend (range_first t) (range_last t) (list_count t) (ap list_count e ∙ no_list_count),
   none_ascend (mapping_code u) (mapping_code u) (list_count u) (ap list_count f ∙ no_list_count),
@@ -139,25 +139,26 @@ entries_past v t u = entries_none v t u CODES (λ c x y. absurd (omega (arith, x
 
 -- the entries of a record, and those of the records after it
 from_step : (s : List ℕ) (k : ℕ) → k < selector_count s
-    → entries_from s k ≡ entries_of_record s k ++ entries_from s (k + 1)
-unfolding entries_from
+    → entries_from_record s k ≡ entries_of_record s k ++ entries_from_record s (k + 1)
+unfolding entries_from_record
 from_step s k h = ap (flat_map (entries_of_record s)) (range_with_len-step k (selector_count s) h)
 
-from_end : (s : List ℕ) (k : ℕ) → selector_count s ≤ k → entries_from s k ≡ []
-unfolding entries_from
+from_end : (s : List ℕ) (k : ℕ) → selector_count s ≤ k → entries_from_record s k ≡ []
+unfolding entries_from_record
 from_end s k h = ap (flat_map (entries_of_record s)) (range_with_len-end k (selector_count s) h)
 
 -- a record is begun where nothing of the one before it is left
-pub begins : (s : List ℕ) (k : ℕ) (now next rest : List Entry) → now ++ entries_from s k ≡ rest → now ≡ []
-    → next ≡ entries_of_record s k → k < selector_count s → next ++ entries_from s (k + 1) ≡ rest
+pub begins : (s : List ℕ) (k : ℕ) (now next rest : List Entry) → now ++ entries_from_record s k ≡ rest → now ≡ []
+    → next ≡ entries_of_record s k → k < selector_count s → next ++ entries_from_record s (k + 1) ≡ rest
 begins s k now next rest left none e h =
-    ap (λ (xs : List Entry). xs ++ entries_from s (k + 1)) e ∙ sym (from_step s k h)
-    ∙ ap (λ (xs : List Entry). xs ++ entries_from s k) (sym none) ∙ left
+    ap (λ (xs : List Entry). xs ++ entries_from_record s (k + 1)) e ∙ sym (from_step s k h)
+    ∙ ap (λ (xs : List Entry). xs ++ entries_from_record s k) (sym none) ∙ left
 
-pub ends : (s : List ℕ) (k : ℕ) (now next rest : List Entry) → now ++ entries_from s k ≡ rest → now ≡ [] → next ≡ []
-    → selector_count s ≤ k → (rest ≡ []) × (next ++ entries_from s k ≡ [])
+pub ends : (s : List ℕ) (k : ℕ) (now next rest : List Entry) → now ++ entries_from_record s k ≡ rest → now ≡ []
+    → next ≡ []
+    → selector_count s ≤ k → (rest ≡ []) × (next ++ entries_from_record s k ≡ [])
 ends s k now next rest left none after h =
     let past = from_end s k h in
-    let all : (xs : List Entry) → xs ≡ [] → xs ++ entries_from s k ≡ [] =
+    let all : (xs : List Entry) → xs ≡ [] → xs ++ entries_from_record s k ≡ [] =
     λ (xs : List Entry) (e : xs ≡ []). (λ i. e i ++ past i) in
     (sym left ∙ all now none, all next after)

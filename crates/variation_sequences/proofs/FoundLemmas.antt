@@ -9,14 +9,13 @@ use Rattle.std.proofs.lemmas.Bool.{ne_eqb}
 use Rattle.std.proofs.lemmas.Bool.Decides.{nat_tests}
 use Rattle.std.proofs.lemmas.List.Folds.{find-append}
 use Rattle.codes.specs.declared.code_points.TheConstants.{CODES}
-use Rattle.variation_sequences.specs.Format14.{list_count, mapping_code, mapping_glyph, mappings_of, range_first}
-use Rattle.variation_sequences.specs.Format14.{range_last}
-use Rattle.variation_sequences.specs.Format14.{ranges_of, selector_at, selector_count}
-use Rattle.variation_sequences.specs.Inside.{IsRecord}
-use Rattle.variation_sequences.specs.Spans.{has_code, is_ascending, member_with}
-use Rattle.variation_sequences.specs.Sequences.{entries_from, entries_in, entries_of, entries_of_record, is_of}
-use Rattle.variation_sequences.specs.Sequences.{record_with}
-use Rattle.variation_sequences.specs.Sequences.{variant_in, variant_of, variant_under}
+use Rattle.variation_sequences.specs.Format14.{default_ranges, list_count, mapping_code, mapping_glyph}
+use Rattle.variation_sequences.specs.Format14.{mappings_of, range_first, range_last, selector_at}
+use Rattle.variation_sequences.specs.Format14.{selector_count}
+use Rattle.variation_sequences.specs.Inside.{IsSelectorRecord}
+use Rattle.variation_sequences.specs.Spans.{are_ascending, has_code, member_with}
+use Rattle.variation_sequences.specs.Sequences.{entries_from_record, entries_in, entries_of, entries_of_record, is_of}
+use Rattle.variation_sequences.specs.Sequences.{record_with, variant_in, variant_of, variant_under}
 use Rattle.variation_sequences.specs.Strict.{is_strict, mapping_with, range_with}
 use Rattle.variation_sequences.specs.declared.variant.Entry.{Entry}
 use Rattle.variation_sequences.specs.declared.variant.Variant.{Variant}
@@ -129,7 +128,7 @@ records_other s v c k zero f = refl
 records_other s v c k (suc n) f =
     find-append (is_of v c) (entries_of_record s k) (records s (k + 1) n)
     ∙ ap (λ o. option_or o (find (is_of v c) (records s (k + 1) n)))
-    (entries_other (selector_at s k) v c 0 (ranges_of s k) (mappings_of s k) (f k (omega arith) (omega arith)))
+    (entries_other (selector_at s k) v c 0 (default_ranges s k) (mappings_of s k) (f k (omega arith) (omega arith)))
     ∙ records_other s v c (k + 1) n (λ j x y. f j (omega (arith, x)) (omega (arith, y)))
 
 records_here : (s : List ℕ) (v c k n m : ℕ) → k ≤ m → m < k + n
@@ -146,7 +145,7 @@ records_here s v c k (suc n) m a b f =
           ∙ ap (λ (j : ℕ). find (is_of v c) (entries_of_record s j)) e
       | inr o ↦
           ap (λ found. option_or found (find (is_of v c) (records s (k + 1) n)))
-          (entries_other (selector_at s k) v c 0 (ranges_of s k) (mappings_of s k)
+          (entries_other (selector_at s k) v c 0 (default_ranges s k) (mappings_of s k)
           (f k (omega arith) (omega arith) o))
           ∙ records_here s v c (k + 1) n m (omega (arith, a, o)) (omega (arith, b))
           (λ j x y. f j (omega (arith, x)) (omega (arith, y)))
@@ -157,7 +156,7 @@ records_here s v c k (suc n) m a b f =
     nothing_after (Some e) = refl
 
 -- of a code past 0x10FFFF nothing is said
-none_above : (first last : ℕ → ℕ) (n c : ℕ) → is_ascending first last n ≡ true → CODES ≤ c
+none_above : (first last : ℕ → ℕ) (n c : ℕ) → are_ascending first last n ≡ true → CODES ≤ c
     → member_with first last n c ≡ None
 unfolding member_with
 none_above first last n c t h =
@@ -167,27 +166,27 @@ none_above first last n c t h =
     above : (k : ℕ) → last k < c → has_code first last c k ≡ false
     above k x = grind (arith, nat_tests)
 
-nothing_above : (s : List ℕ) (k c : ℕ) → IsRecord s k → CODES ≤ c → variant_under s k c ≡ None
+nothing_above : (s : List ℕ) (k c : ℕ) → IsSelectorRecord s k → CODES ≤ c → variant_under s k c ≡ None
 unfolding variant_in
 nothing_above s k c r h =
     rw (none_above _ _ _ c r.range_order h, none_above _ _ _ c r.mapping_order h) refl
 
 -- what a record says of a code is what is found among its entries
-found_in_record : (s : List ℕ) (k v c : ℕ) → IsRecord s k → selector_at s k ≡ v
+found_in_record : (s : List ℕ) (k v c : ℕ) → IsSelectorRecord s k → selector_at s k ≡ v
     → variant_under s k c ≡ option_map (λ e. e.variant) (find (is_of v c) (entries_of_record s k))
 found_in_record s k v c r e = elim (cases_lt c CODES) [
   | inl x ↦
       sym (ap (λ (w : ℕ). option_map (λ (d : Entry). d.variant)
-      (find (is_of v c) (entries_in w (ranges_of s k) (mappings_of s k) 0))) e
+      (find (is_of v c) (entries_in w (default_ranges s k) (mappings_of s k) 0))) e
       ∙ ap (option_map (λ (d : Entry). d.variant))
-      (entries_here v c 0 (ranges_of s k) (mappings_of s k) (omega arith) x)
+      (entries_here v c 0 (default_ranges s k) (mappings_of s k) (omega arith) x)
       ∙ only_variant (variant_under s k c))
   | inr x ↦
       nothing_above s k c r x
       ∙ sym (ap (λ (w : ℕ). option_map (λ (d : Entry). d.variant)
-      (find (is_of v c) (entries_in w (ranges_of s k) (mappings_of s k) 0))) e
+      (find (is_of v c) (entries_in w (default_ranges s k) (mappings_of s k) 0))) e
       ∙ ap (option_map (λ (d : Entry). d.variant))
-      (entries_above v c 0 (ranges_of s k) (mappings_of s k) (omega arith) x))
+      (entries_above v c 0 (default_ranges s k) (mappings_of s k) (omega arith) x))
 ]
   where
     only_variant : (o : Option Variant) → option_map (λ (d : Entry). d.variant) (option_map (entry v c) o) ≡ o
@@ -234,7 +233,7 @@ found_by s v c (Some m) t h =
 
 pub found_is_listed : (s : List ℕ) (v c : ℕ) → is_strict s ≡ true
     → variant_of s v c ≡ option_map (λ e. e.variant) (find (is_of v c) (entries_of s))
-unfolding variant_of entries_of entries_from member_with
+unfolding variant_of entries_of entries_from_record member_with
 found_is_listed s v c t =
     let all : selector_count s - 0 ≡ selector_count s = omega arith in
     found_by s v c (record_with s v) t

@@ -13,14 +13,14 @@ use Rattle.std.proofs.lemmas.List.Sums.{sum_by-cons}
 use Rattle.sfnt_bytes.specs.Number.{u16_at, u32_at}
 use Rattle.codes.specs.Order.{IsFirstReaching}
 use Rattle.codes.specs.declared.code_points.TheConstants.{CODES}
-use Rattle.variation_sequences.specs.Format14.{list_count, mapping_code, mapping_glyph, mappings_of, range_first}
-use Rattle.variation_sequences.specs.Format14.{range_last}
+use Rattle.variation_sequences.specs.Format14.{list_count, mapping_code, mapping_glyph, mappings_of}
+use Rattle.variation_sequences.specs.Format14.{range_first, range_last}
 use Rattle.variation_sequences.specs.Encoding.{is_whole, whole_subtable}
-use Rattle.variation_sequences.specs.Format14.{range_more, ranges_of, selector_at, selector_count}
-use Rattle.variation_sequences.specs.Laws.{MadeIsReadBack}
+use Rattle.variation_sequences.specs.Format14.{default_ranges, range_more, selector_at, selector_count}
+use Rattle.variation_sequences.specs.Laws.{SubtableIsReadBack}
 use Rattle.variation_sequences.specs.Inside.{IsNextCode, NoVariant}
-use Rattle.variation_sequences.specs.Spans.{has_code, is_above, is_ascending, member_with}
-use Rattle.variation_sequences.specs.Sequences.{entries_from, entries_in, entries_of, entries_of_record}
+use Rattle.variation_sequences.specs.Spans.{are_ascending, has_code, is_above, member_with}
+use Rattle.variation_sequences.specs.Sequences.{entries_from_record, entries_in, entries_of, entries_of_record}
 use Rattle.variation_sequences.specs.Strict.{codes_in, entries_under, entry_count, has_lists, has_ordered_lists}
 use Rattle.variation_sequences.specs.Strict.{is_apart}
 use Rattle.variation_sequences.specs.Strict.{is_strict, range_with}
@@ -177,8 +177,8 @@ above_by codes (suc i) a b =
         && (eqb (suc i) 0 || ltb (codes k) (codes (suc i)))) ≡ true) (sym before) (grind (arith, nat_tests))
 
 ascending_by : (codes : ℕ → ℕ) (n : ℕ) → ((i : ℕ) → i < n → codes i < CODES)
-    → ((i : ℕ) → suc i < n → codes i < codes (suc i)) → is_ascending codes codes n ≡ true
-unfolding is_ascending
+    → ((i : ℕ) → suc i < n → codes i < codes (suc i)) → are_ascending codes codes n ≡ true
+unfolding are_ascending
 ascending_by codes n low rise =
     all_from (is_above codes codes) 0 n (λ i x y. above_by codes i (low i (omega (arith, y))) (step i y))
   where
@@ -190,7 +190,7 @@ ascending_by codes n low rise =
 
 -- the table of a group is in order
 table_ascends : (v : ℕ) (u : List ℕ) (g : List Pair) → IsTable u g → OrderedCodes v 0 g
-    → is_ascending (mapping_code u) (mapping_code u) (list_count u) ≡ true
+    → are_ascending (mapping_code u) (mapping_code u) (list_count u) ≡ true
 table_ascends v u g t o =
     ascending_by (mapping_code u) (list_count u)
     (λ i h. let there : i < length g = omega (arith, h, t.count) in
@@ -219,7 +219,7 @@ StandAt u j ps =
     → (mapping_code u (j + i) ≡ (get_or ps i no_pair).code) × (mapping_glyph u (j + i) ≡ (get_or ps i no_pair).glyph)
 
 entries_are : (v : ℕ) (t u : List ℕ) (ps : List Pair) (j from : ℕ) → t ≡ 0 ∷ 0 ∷ 0 ∷ 0 ∷ []
-    → is_ascending (mapping_code u) (mapping_code u) (list_count u) ≡ true → j + length ps ≡ list_count u
+    → are_ascending (mapping_code u) (mapping_code u) (list_count u) ≡ true → j + length ps ≡ list_count u
     → StandAt u j ps → OrderedCodes v from ps → ((i : ℕ) → i < j → mapping_code u i < from)
     → entries_in v t u from ≡ map entry_of ps
 entries_are v t u [] j from e a n s o b =
@@ -315,27 +315,30 @@ apart t u e =
     (λ j x y. ap (λ (o : Option ℕ). not (is_some o))
     (none_with (range_first t) (range_last t) (list_count t) (mapping_code u j) (ap list_count e ∙ no_list_count)))
 
-lists_by : (s : List ℕ) (k : ℕ) (g : List Pair) → ranges_of s k ≡ 0 ∷ 0 ∷ 0 ∷ 0 ∷ [] → IsTable (mappings_of s k) g
+lists_by : (s : List ℕ) (k : ℕ) (g : List Pair) → default_ranges s k ≡ 0 ∷ 0 ∷ 0 ∷ 0 ∷ [] → IsTable (mappings_of s k) g
     → has_lists s k ≡ true
 unfolding has_lists
 lists_by s k g e t =
-    let none : list_count (ranges_of s k) ≡ 0 = ap list_count e ∙ no_list_count in
-    let four : length (ranges_of s k) ≡ 4 = ap (λ (b : List ℕ). length b) e in
-    and_from _ _ (le-leb (4 + 4 * list_count (ranges_of s k)) (length (ranges_of s k)) (omega (arith, none, four)))
+    let none : list_count (default_ranges s k) ≡ 0 = ap list_count e ∙ no_list_count in
+    let four : length (default_ranges s k) ≡ 4 = ap (λ (b : List ℕ). length b) e in
+    and_from _ _ (le-leb (4 + 4 * list_count (default_ranges s k)) (length (default_ranges s k))
+    (omega (arith, none, four)))
     (le-leb (4 + 5 * list_count (mappings_of s k)) (length (mappings_of s k)) t.room)
 
-ordered_by : (s : List ℕ) (k v : ℕ) (g : List Pair) → ranges_of s k ≡ 0 ∷ 0 ∷ 0 ∷ 0 ∷ [] → IsTable (mappings_of s k) g
+ordered_by : (s : List ℕ) (k v : ℕ) (g : List Pair) → default_ranges s k ≡ 0 ∷ 0 ∷ 0 ∷ 0 ∷ []
+    → IsTable (mappings_of s k) g
     → OrderedCodes v 0 g → has_ordered_lists s k ≡ true
 unfolding has_ordered_lists
 ordered_by s k v g e t o =
     and_from _ _
-    (and_from _ _ (no_list_ascends (ranges_of s k) (ranges_of s k) e e).0 (table_ascends v (mappings_of s k) g t o))
-    (apart (ranges_of s k) (mappings_of s k) e)
+    (and_from _ _ (no_list_ascends (default_ranges s k) (default_ranges s k) e e).0
+    (table_ascends v (mappings_of s k) g t o))
+    (apart (default_ranges s k) (mappings_of s k) e)
 
-under_by : (s : List ℕ) (k : ℕ) (g : List Pair) → ranges_of s k ≡ 0 ∷ 0 ∷ 0 ∷ 0 ∷ [] → IsTable (mappings_of s k) g
+under_by : (s : List ℕ) (k : ℕ) (g : List Pair) → default_ranges s k ≡ 0 ∷ 0 ∷ 0 ∷ 0 ∷ [] → IsTable (mappings_of s k) g
     → entries_under s k ≡ length g
 unfolding entries_under
-under_by s k g e t = omega (arith, no_codes (ranges_of s k) e, t.count)
+under_by s k g e t = omega (arith, no_codes (default_ranges s k) e, t.count)
 
 -- the subtable for pairs in order
 module _ (pairs : List Pair) (order : AreOrdered 0 0 pairs) where
@@ -361,7 +364,7 @@ module _ (pairs : List Pair) (order : AreOrdered 0 0 pairs) where
   has_records_made : leb (10 + 11 * selector_count made) (length made) ≡ true
   has_records_made = le-leb (10 + 11 * selector_count made) (length made) (omega (arith, count_read pairs, size_is))
 
-  selectors_made : is_ascending (selector_at made) (selector_at made) (selector_count made) ≡ true
+  selectors_made : are_ascending (selector_at made) (selector_at made) (selector_count made) ≡ true
   selectors_made =
       ascending_by (selector_at made) (selector_count made)
       (λ i h. omega (arith, selector_read pairs i (inside i h), (group_codes 0 groups i in_order (inside i h)).1))
@@ -407,12 +410,12 @@ module _ (pairs : List Pair) (order : AreOrdered 0 0 pairs) where
 
   record_made : (k : ℕ) → k < length groups → entries_of_record made k ≡ map entry_of (get_or groups k [])
   record_made k h =
-      table_entries (selector_at made k) (ranges_of made k) (mappings_of made k) (get_or groups k [])
+      table_entries (selector_at made k) (default_ranges made k) (mappings_of made k) (get_or groups k [])
       (ranges_read pairs k h) (mappings_read pairs k h)
       (subst (λ (v : ℕ). OrderedCodes v 0 (get_or groups k [])) (sym (selector_read pairs k h)) (codes_at k h))
 
   pub entries_made : entries_of made ≡ map entry_of pairs
-  unfolding entries_of entries_from
+  unfolding entries_of entries_from_record
   entries_made =
       let all : selector_count made - 0 ≡ length groups = omega (arith, count_read pairs) in
       ap (λ (n : ℕ). flat_map (entries_of_record made) (range_with_len 0 n)) all
@@ -450,7 +453,7 @@ whole_made pairs after =
     ∙ ap (λ (n : ℕ). Some (take n bytes)) stated
     ∙ ap (λ (b : List ℕ). Some b) (take_at (subtable_bytes pairs) after (subtable_size pairs) size)
 
-pub read_back : MadeIsReadBack
+pub read_back : SubtableIsReadBack
 read_back pairs order few = record {
   whole = whole_made pairs;
   strict = made_strict pairs order few;

@@ -5,7 +5,7 @@ use Rattle.std.proofs.lemmas.List.{get_or-drop}
 use Rattle.std.proofs.Math.Seq.{drop-append-add}
 use Rattle.sfnt_bytes.specs.Number.{number, u16_at, u32_at}
 use Rattle.variation_sequences.specs.Format14.{u24_at}
-use Rattle.variation_sequences.specs.Written.{u16_bytes, u24_bytes, u32_bytes}
+use Rattle.variation_sequences.specs.Written.{bytes_of_u16, bytes_of_u24, bytes_of_u32}
 
 -- a byte after what is left out
 byte-drop : (k at : ℕ) (b : List ℕ) (j : ℕ) → get_or (drop k b) (at + j) 0 ≡ get_or b (k + at + j) 0
@@ -39,15 +39,15 @@ u32_at-drop k at b =
     λ i. number (first i) (second i) (third i) (fourth i)
 
 -- a number in front of other bytes
-pub u16_read : (n : ℕ) (z : List ℕ) → u16_at (u16_bytes n ++ z) 0 ≡ n
+pub u16_read : (n : ℕ) (z : List ℕ) → u16_at (bytes_of_u16 n ++ z) 0 ≡ n
 unfolding u16_at
 u16_read n z = omega arith
 
-pub u24_read : (n : ℕ) (z : List ℕ) → u24_at (u24_bytes n ++ z) 0 ≡ n
+pub u24_read : (n : ℕ) (z : List ℕ) → u24_at (bytes_of_u24 n ++ z) 0 ≡ n
 unfolding u24_at
 u24_read n z = omega arith
 
-pub u32_read : (n : ℕ) (z : List ℕ) → u32_at (u32_bytes n ++ z) 0 ≡ n
+pub u32_read : (n : ℕ) (z : List ℕ) → u32_at (bytes_of_u32 n ++ z) 0 ≡ n
 unfolding u32_at
 u32_read n z = omega arith
 

@@ -7,7 +7,7 @@ use Rattle.std.proofs.lemmas.Bool.Decides.{nat_tests}
 use Rattle.codes.specs.Order.{Ascends, IsFirstReaching}
 use Rattle.codes.specs.declared.code_points.TheConstants.{CODES}
 use Rattle.variation_sequences.specs.Inside.{IsNextCode}
-use Rattle.variation_sequences.specs.Spans.{has_code, is_above, is_ascending, member_with}
+use Rattle.variation_sequences.specs.Spans.{are_ascending, has_code, is_above, member_with}
 use Rattle.variation_sequences.proofs.PlaceLemmas.{all_at, find_no_place, find_place}
 
 -- what is tested of a member
@@ -23,12 +23,12 @@ stands_by first last i t = record {
   above = λ low. grind (arith, nat_tests);
 }
 
-pub stands : (first last : ℕ → ℕ) (n i : ℕ) → is_ascending first last n ≡ true → i < n → Stands first last i
-unfolding is_ascending
+pub stands : (first last : ℕ → ℕ) (n i : ℕ) → are_ascending first last n ≡ true → i < n → Stands first last i
+unfolding are_ascending
 stands first last n i t h = stands_by first last i (all_at (is_above first last) 0 n i i t h (omega arith))
 
 -- a member ends before the ones after it begin
-pub begins_after : (first last : ℕ → ℕ) (n i j : ℕ) → is_ascending first last n ≡ true → i < j → j < n
+pub begins_after : (first last : ℕ → ℕ) (n i j : ℕ) → are_ascending first last n ≡ true → i < j → j < n
     → last i < first j
 begins_after first last n i zero t h l = absurd (omega (arith, h))
 begins_after first last n i (suc j) t h l =
@@ -45,7 +45,7 @@ begins_after first last n i (suc j) t h l =
     ]
 
 -- so the ends ascend
-pub ascends : (first last : ℕ → ℕ) (n : ℕ) → is_ascending first last n ≡ true → Ascends last n
+pub ascends : (first last : ℕ → ℕ) (n : ℕ) → are_ascending first last n ≡ true → Ascends last n
 ascends first last n t i j h l =
     omega (arith, begins_after first last n i j t h l, (stands first last n j t l).codes)
 
@@ -68,7 +68,7 @@ member_at first last n c i r h l =
     (λ k x. has_above first last c k (r.before k x))
 
 -- or else none has it
-pub no_member : (first last : ℕ → ℕ) (n c i : ℕ) → is_ascending first last n ≡ true → IsFirstReaching last n c i
+pub no_member : (first last : ℕ → ℕ) (n c i : ℕ) → are_ascending first last n ≡ true → IsFirstReaching last n c i
     → (i < n → c < first i) → member_with first last n c ≡ None
 unfolding member_with
 no_member first last n c i t r b =
@@ -96,7 +96,7 @@ reaching_on first last n from c i r h l = record {
   here = l;
 }
 
-pub next_past : (first last : ℕ → ℕ) (n from i : ℕ) → is_ascending first last n ≡ true
+pub next_past : (first last : ℕ → ℕ) (n from i : ℕ) → are_ascending first last n ≡ true
     → IsFirstReaching last n from i → n ≤ i → IsNextCode first last n from i CODES
 next_past first last n from i t r h = record {
   within = omega arith;
@@ -108,7 +108,7 @@ next_past first last n from i t r h = record {
   there = λ x. absurd (omega (arith, x));
 }
 
-pub next_here : (first last : ℕ → ℕ) (n from i code : ℕ) → is_ascending first last n ≡ true
+pub next_here : (first last : ℕ → ℕ) (n from i code : ℕ) → are_ascending first last n ≡ true
     → IsFirstReaching last n from i → i < n → code ≡ max from (first i) → IsNextCode first last n from i code
 next_here first last n from i code t r h e =
     let member = stands first last n i t h in

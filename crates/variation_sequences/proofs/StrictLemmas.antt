@@ -6,7 +6,7 @@ use Rattle.std.specs.Option.{is_some}
 use Rattle.std.proofs.lemmas.List.Sums.{sum_by-cons}
 use Rattle.std.proofs.lemmas.Bool.{and_parts, leb-true}
 use Rattle.variation_sequences.specs.Format14.{list_count, mapping_code, range_more, selector_count}
-use Rattle.variation_sequences.specs.Inside.{HasLists, HasSelectors, IsRecord}
+use Rattle.variation_sequences.specs.Inside.{HasLists, HasSelectors, IsSelectorRecord}
 use Rattle.variation_sequences.specs.Strict.{codes_in, has_lists, has_ordered_lists, has_records, is_strict, range_with}
 use Rattle.variation_sequences.proofs.PlaceLemmas.{all_at}
 
@@ -43,7 +43,8 @@ strict_selectors s t =
     let first = and_parts (has_records s) _ (and_parts _ _ (and_parts _ _ (and_parts _ _ t).0).0).0 in
     record { room = leb-true _ _ first.0; order = first.1 }
 
-ordered_by : (s : List ℕ) (k : ℕ) → has_ordered_lists s k ≡ true → 21 + 11 * k ≤ length s → HasLists s k → IsRecord s k
+ordered_by : (s : List ℕ) (k : ℕ) → has_ordered_lists s k ≡ true → 21 + 11 * k ≤ length s → HasLists s k
+    → IsSelectorRecord s k
 unfolding has_ordered_lists
 ordered_by s k t room lists =
     let both = and_parts _ _ (and_parts _ _ t).0 in
@@ -58,7 +59,7 @@ all_ordered : (s : List ℕ) → is_strict s ≡ true
 unfolding is_strict
 all_ordered s t = (and_parts _ _ t).1
 
-pub strict_record : (s : List ℕ) (k : ℕ) → is_strict s ≡ true → k < selector_count s → IsRecord s k
+pub strict_record : (s : List ℕ) (k : ℕ) → is_strict s ≡ true → k < selector_count s → IsSelectorRecord s k
 strict_record s k t h =
     ordered_by s k (all_at (has_ordered_lists s) 0 (selector_count s) k k (all_ordered s t) h (omega arith))
     (omega (arith, (strict_selectors s t).room, h)) (lists_at s k (all_lists s t) h)

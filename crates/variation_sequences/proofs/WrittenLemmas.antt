@@ -5,11 +5,11 @@ use Rattle.std.proofs.lemmas.Bool.{cond-false, ne_eqb}
 use Rattle.std.proofs.lemmas.List.{drop-drop}
 use Rattle.std.proofs.Math.Seq.{drop-append_seam}
 use Rattle.sfnt_bytes.specs.Number.{number, u16_at, u32_at}
-use Rattle.variation_sequences.specs.Format14.{list_at, list_count, mapping_code, mapping_glyph, mappings_of, ranges_of}
-use Rattle.variation_sequences.specs.Format14.{selector_at, selector_count, u24_at}
-use Rattle.variation_sequences.specs.Written.{grouped, mapping_bytes, placed, record_bytes, selector_of, subtable_bytes}
-use Rattle.variation_sequences.specs.Written.{subtable_size, table_bytes, table_size, tables_at, u16_bytes, u24_bytes}
-use Rattle.variation_sequences.specs.Written.{u32_bytes}
+use Rattle.variation_sequences.specs.Format14.{default_ranges, list_at, list_count, mapping_code, mapping_glyph}
+use Rattle.variation_sequences.specs.Format14.{mappings_of, selector_at, selector_count, u24_at}
+use Rattle.variation_sequences.specs.Written.{bytes_of_u16, bytes_of_u24, bytes_of_u32, grouped, mapping_bytes}
+use Rattle.variation_sequences.specs.Written.{mappings_bytes, placed, record_bytes, selector_of, subtable_bytes}
+use Rattle.variation_sequences.specs.Written.{subtable_size, table_size, tables_at}
 use Rattle.variation_sequences.specs.declared.variant.Pair.{Pair}
 use Rattle.variation_sequences.proofs.ReadLemmas.{drop-rows, length-rows, u16_at-drop, u16_read, u24_at-drop, u24_read}
 use Rattle.variation_sequences.proofs.ReadLemmas.{u32_at-drop, u32_read}
@@ -29,50 +29,50 @@ sized_record : (r : ℕ × ℕ) → length (record_bytes r) ≡ 11
 unfolding record_bytes
 sized_record r = refl
 
-pub length-table : (g : List Pair) → length (table_bytes g) ≡ table_size g
-unfolding table_bytes
+pub length-table : (g : List Pair) → length (mappings_bytes g) ≡ table_size g
+unfolding mappings_bytes
 length-table g = omega (arith, length-rows mapping_bytes 5 sized_mapping g)
 
-table_count : (g : List Pair) (rest : List ℕ) → list_count (table_bytes g ++ rest) ≡ length g
-unfolding list_count table_bytes
+table_count : (g : List Pair) (rest : List ℕ) → list_count (mappings_bytes g ++ rest) ≡ length g
+unfolding list_count mappings_bytes
 table_count g rest = u32_read (length g) (flat_map mapping_bytes g ++ rest)
 
-after_count : (g : List Pair) (rest : List ℕ) → drop 4 (table_bytes g ++ rest) ≡ flat_map mapping_bytes g ++ rest
-unfolding table_bytes
+after_count : (g : List Pair) (rest : List ℕ) → drop 4 (mappings_bytes g ++ rest) ≡ flat_map mapping_bytes g ++ rest
+unfolding mappings_bytes
 after_count g rest = refl
 
 mapping_at : (g : List Pair) (rest : List ℕ) (j : ℕ) → j < length g
-    → (more : List ℕ) × (drop (4 + 5 * j) (table_bytes g ++ rest) ≡ mapping_bytes (get_or g j no_pair) ++ more)
+    → (more : List ℕ) × (drop (4 + 5 * j) (mappings_bytes g ++ rest) ≡ mapping_bytes (get_or g j no_pair) ++ more)
 mapping_at g rest j h =
     let there = drop-rows mapping_bytes 5 sized_mapping g rest j no_pair h in (
       there.0,
-      sym (drop-drop (5 * j) 4 (table_bytes g ++ rest)) ∙ ap (drop (5 * j)) (after_count g rest) ∙ there.1,
+      sym (drop-drop (5 * j) 4 (mappings_bytes g ++ rest)) ∙ ap (drop (5 * j)) (after_count g rest) ∙ there.1,
     )
 
 code_read : (p : Pair) (more : List ℕ) → u24_at (mapping_bytes p ++ more) 0 ≡ p.code
 unfolding mapping_bytes
-code_read p more = u24_read p.code (u16_bytes p.glyph ++ more)
+code_read p more = u24_read p.code (bytes_of_u16 p.glyph ++ more)
 
 glyph_read : (p : Pair) (more : List ℕ) → u16_at (mapping_bytes p ++ more) 3 ≡ p.glyph
 unfolding mapping_bytes u16_at
 glyph_read p more = omega arith
 
 table_code : (g : List Pair) (rest : List ℕ) (j : ℕ) → j < length g
-    → mapping_code (table_bytes g ++ rest) j ≡ (get_or g j no_pair).code
+    → mapping_code (mappings_bytes g ++ rest) j ≡ (get_or g j no_pair).code
 unfolding mapping_code
 table_code g rest j h =
     let there = mapping_at g rest j h in
     let place : 4 + 5 * j ≡ 4 + 5 * j + 0 = omega arith in
-    ap (u24_at (table_bytes g ++ rest)) place ∙ sym (u24_at-drop (4 + 5 * j) 0 (table_bytes g ++ rest))
+    ap (u24_at (mappings_bytes g ++ rest)) place ∙ sym (u24_at-drop (4 + 5 * j) 0 (mappings_bytes g ++ rest))
     ∙ ap (λ (b : List ℕ). u24_at b 0) there.1 ∙ code_read (get_or g j no_pair) there.0
 
 table_glyph : (g : List Pair) (rest : List ℕ) (j : ℕ) → j < length g
-    → mapping_glyph (table_bytes g ++ rest) j ≡ (get_or g j no_pair).glyph
+    → mapping_glyph (mappings_bytes g ++ rest) j ≡ (get_or g j no_pair).glyph
 unfolding mapping_glyph
 table_glyph g rest j h =
     let there = mapping_at g rest j h in
     let place : 7 + 5 * j ≡ 4 + 5 * j + 3 = omega arith in
-    ap (u16_at (table_bytes g ++ rest)) place ∙ sym (u16_at-drop (4 + 5 * j) 3 (table_bytes g ++ rest))
+    ap (u16_at (mappings_bytes g ++ rest)) place ∙ sym (u16_at-drop (4 + 5 * j) 3 (mappings_bytes g ++ rest))
     ∙ ap (λ (b : List ℕ). u16_at b 3) there.1 ∙ glyph_read (get_or g j no_pair) there.0
 
 -- bytes that begin with the table of a group
@@ -82,10 +82,10 @@ pub record IsTable (u : List ℕ) (g : List Pair) : Type 0 where
   pub code : (j : ℕ) → j < length g → mapping_code u j ≡ (get_or g j no_pair).code
   pub glyph : (j : ℕ) → j < length g → mapping_glyph u j ≡ (get_or g j no_pair).glyph
 
-table_is : (g : List Pair) (rest : List ℕ) → IsTable (table_bytes g ++ rest) g
+table_is : (g : List Pair) (rest : List ℕ) → IsTable (mappings_bytes g ++ rest) g
 table_is g rest = record {
   count = table_count g rest;
-  room = omega (arith, table_count g rest, length-append (table_bytes g) rest, length-table g);
+  room = omega (arith, table_count g rest, length-append (mappings_bytes g) rest, length-table g);
   code = table_code g rest;
   glyph = table_glyph g rest;
 }
@@ -108,24 +108,24 @@ placed_least at (g ∷ gs) (suc k) h = omega (arith, placed_least (at + table_si
 
 placed_table : (at : ℕ) (gs : List (List Pair)) (k : ℕ) (front : List ℕ) → length front ≡ at → k < length gs
     → (rest : List ℕ)
-    × (drop (get_or (placed at gs) k nowhere).1 (front ++ flat_map table_bytes gs)
-    ≡ table_bytes (get_or gs k []) ++ rest)
+    × (drop (get_or (placed at gs) k nowhere).1 (front ++ flat_map mappings_bytes gs)
+    ≡ mappings_bytes (get_or gs k []) ++ rest)
 placed_table at [] k front e h = absurd (omega (arith, h))
 placed_table at (g ∷ gs) zero front e h = (
-  flat_map table_bytes gs,
-  ap (λ (m : ℕ). drop m (front ++ flat_map table_bytes (g ∷ gs))) (sym e)
-      ∙ drop-append_seam front (flat_map table_bytes (g ∷ gs)),
+  flat_map mappings_bytes gs,
+  ap (λ (m : ℕ). drop m (front ++ flat_map mappings_bytes (g ∷ gs))) (sym e)
+      ∙ drop-append_seam front (flat_map mappings_bytes (g ∷ gs)),
 )
 placed_table at (g ∷ gs) (suc k) front e h =
-    let size : length (front ++ table_bytes g) ≡ at + table_size g =
-    omega (arith, length-append front (table_bytes g), length-table g, e) in
-    let further = placed_table (at + table_size g) gs k (front ++ table_bytes g) size (omega (arith, h)) in (
+    let size : length (front ++ mappings_bytes g) ≡ at + table_size g =
+    omega (arith, length-append front (mappings_bytes g), length-table g, e) in
+    let further = placed_table (at + table_size g) gs k (front ++ mappings_bytes g) size (omega (arith, h)) in (
       further.0,
       ap (drop (get_or (placed (at + table_size g) gs) k nowhere).1)
-          (sym (append_assoc front (table_bytes g) (flat_map table_bytes gs))) ∙ further.1,
+          (sym (append_assoc front (mappings_bytes g) (flat_map mappings_bytes gs))) ∙ further.1,
     )
 
-pub length-tables : (gs : List (List Pair)) → length (flat_map table_bytes gs)
+pub length-tables : (gs : List (List Pair)) → length (flat_map mappings_bytes gs)
     ≡ 4 * length gs + 5 * length (flat_map (λ g. g) gs)
 length-tables [] = refl
 length-tables (g ∷ gs) =
@@ -133,7 +133,7 @@ length-tables (g ∷ gs) =
       arith,
       length-tables gs,
       length-table g,
-      length-append (table_bytes g) (flat_map table_bytes gs),
+      length-append (mappings_bytes g) (flat_map mappings_bytes gs),
       length-append g (flat_map (λ (h : List Pair). h) gs),
     )
 
@@ -154,7 +154,7 @@ module _ (pairs : List Pair) where
   places = placed (tables_at pairs) groups
 
   abbrev tables : List ℕ
-  tables = flat_map table_bytes groups
+  tables = flat_map mappings_bytes groups
 
   abbrev records : List ℕ
   records = flat_map record_bytes places
@@ -164,7 +164,7 @@ module _ (pairs : List Pair) where
 
   -- what stands in front of the tables
   abbrev front : List ℕ
-  front = u16_bytes 14 ++ u32_bytes (subtable_size pairs) ++ u32_bytes (length groups) ++ records
+  front = bytes_of_u16 14 ++ bytes_of_u32 (subtable_size pairs) ++ bytes_of_u32 (length groups) ++ records
 
   length-records : length records ≡ 11 * length groups
   length-records =
@@ -203,7 +203,7 @@ module _ (pairs : List Pair) where
 
   first_field : (r : ℕ × ℕ) (rest : List ℕ) → u24_at (record_bytes r ++ rest) 0 ≡ r.0
   unfolding record_bytes
-  first_field r rest = u24_read r.0 (u32_bytes 0 ++ (u32_bytes r.1 ++ rest))
+  first_field r rest = u24_read r.0 (bytes_of_u32 0 ++ (bytes_of_u32 r.1 ++ rest))
 
   second_field : (r : ℕ × ℕ) (rest : List ℕ) → u32_at (record_bytes r ++ rest) 3 ≡ 0
   unfolding record_bytes u32_at
@@ -221,8 +221,8 @@ module _ (pairs : List Pair) where
       ap (u24_at made) place ∙ sym (u24_at-drop (10 + 11 * k) 0 made) ∙ ap (λ (b : List ℕ). u24_at b 0) there.1
       ∙ first_field (get_or places k nowhere) there.0 ∙ placed_selector (tables_at pairs) groups k h
 
-  pub ranges_read : (k : ℕ) → k < length groups → ranges_of made k ≡ 0 ∷ 0 ∷ 0 ∷ 0 ∷ []
-  unfolding ranges_of
+  pub ranges_read : (k : ℕ) → k < length groups → default_ranges made k ≡ 0 ∷ 0 ∷ 0 ∷ 0 ∷ []
+  unfolding default_ranges
   ranges_read k h =
       let there = record_at k h in
       let place : 13 + 11 * k ≡ 10 + 11 * k + 3 = omega arith in
@@ -243,7 +243,7 @@ module _ (pairs : List Pair) where
   mappings_read k h =
       let there = placed_table (tables_at pairs) groups k front length-front h in
       let some : 0 < (get_or places k nowhere).1 = omega (arith, placed_least (tables_at pairs) groups k h) in
-      let bytes : list_at made (u32_at made (17 + 11 * k)) ≡ table_bytes (get_or groups k []) ++ there.0 =
+      let bytes : list_at made (u32_at made (17 + 11 * k)) ≡ mappings_bytes (get_or groups k []) ++ there.0 =
       ap (list_at made) (offset_read k h) ∙ list_at-some made (get_or places k nowhere).1 some
       ∙ ap (drop (get_or places k nowhere).1) made_is ∙ there.1 in
       subst (λ (u : List ℕ). IsTable u (get_or groups k [])) (sym bytes) (table_is (get_or groups k []) there.0)

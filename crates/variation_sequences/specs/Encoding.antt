@@ -8,8 +8,8 @@ use Rattle.sfnt_bytes.specs.Number.{u16_at, u32_at}
 use Rattle.variation_sequences.specs.Strict.{is_strict}
 
 -- numTables, and 0 where the header of `cmap` is cut off
-unfoldable pub encoding_count : List ℕ → ℕ
-encoding_count cmap = if nat_lt (length cmap) 4 then 0 else u16_at cmap 2
+unfoldable pub encoding_record_count : List ℕ → ℕ
+encoding_record_count cmap = if nat_lt (length cmap) 4 then 0 else u16_at cmap 2
 
 -- encoding record k is all there, and has platformID 0 and encodingID 5
 unfoldable pub is_sequence_record : List ℕ → ℕ → Bool
@@ -20,13 +20,13 @@ is_sequence_record cmap k =
 -- another such record stands after record k
 unfoldable pub has_later_record : List ℕ → ℕ → Bool
 has_later_record cmap k =
-    list_any (is_sequence_record cmap) (range_with_len (k + 1) (encoding_count cmap - (k + 1)))
+    list_any (is_sequence_record cmap) (range_with_len (k + 1) (encoding_record_count cmap - (k + 1)))
 
 -- the only such record
 unfoldable pub sole_record : List ℕ → Option ℕ
 sole_record cmap =
     option_and_then (λ k. if has_later_record cmap k then None else Some k)
-    (find (is_sequence_record cmap) (range_with_len 0 (encoding_count cmap)))
+    (find (is_sequence_record cmap) (range_with_len 0 (encoding_record_count cmap)))
 
 -- the bytes of `cmap` from the subtable of record k on
 unfoldable pub from_subtable : List ℕ → ℕ → List ℕ

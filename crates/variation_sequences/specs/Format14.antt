@@ -21,8 +21,8 @@ unfoldable pub list_at : List ℕ → ℕ → List ℕ
 list_at s offset = if nat_eq offset 0 then 0 ∷ 0 ∷ 0 ∷ 0 ∷ [] else drop offset s
 
 -- record k: what begins with its default table, by defaultUVSOffset
-unfoldable pub ranges_of : List ℕ → ℕ → List ℕ
-ranges_of s k = list_at s (u32_at s (13 + 11 * k))
+unfoldable pub default_ranges : List ℕ → ℕ → List ℕ
+default_ranges s k = list_at s (u32_at s (13 + 11 * k))
 
 -- record k: what begins with its non-default table, by nonDefaultUVSOffset
 unfoldable pub mappings_of : List ℕ → ℕ → List ℕ

@@ -1,16 +1,16 @@
 -- Words of private contracts and of proofs: no public clause names them.
 use Rattle.std.specs.Prelude.{◌≡◌, ℕ, ◌+◌, ◌*◌, ◌<◌, ◌≤◌, true, List, length, None, Some}
 use Rattle.codes.specs.declared.code_points.TheConstants.{CODES}
-use Rattle.variation_sequences.specs.Format14.{list_count, mapping_code, mappings_of, range_first, range_last}
-use Rattle.variation_sequences.specs.Format14.{ranges_of, selector_count}
-use Rattle.variation_sequences.specs.Spans.{is_ascending, member_with}
+use Rattle.variation_sequences.specs.Format14.{default_ranges, list_count, mapping_code, mappings_of}
+use Rattle.variation_sequences.specs.Format14.{range_first, range_last, selector_count}
+use Rattle.variation_sequences.specs.Spans.{are_ascending, member_with}
 use Rattle.variation_sequences.specs.Sequences.{variant_in}
 use Rattle.variation_sequences.specs.Strict.{has_ordered_selectors}
 use Rattle.variation_sequences.specs.declared.variant.Variant.{Variant}
 
 -- both tables of record k lie within the bytes
 pub record HasLists (s : List ℕ) (k : ℕ) : Type 0 where
-  pub ranges : 4 + 4 * list_count (ranges_of s k) ≤ length (ranges_of s k)
+  pub ranges : 4 + 4 * list_count (default_ranges s k) ≤ length (default_ranges s k)
   pub mappings : 4 + 5 * list_count (mappings_of s k) ≤ length (mappings_of s k)
 
 -- the records of a subtable that is read
@@ -19,13 +19,14 @@ pub record HasSelectors (s : List ℕ) : Type 0 where
   pub order : has_ordered_selectors s ≡ true
 
 -- record k of a subtable that is read
-pub record IsRecord (s : List ℕ) (k : ℕ) : Type 0 where
+pub record IsSelectorRecord (s : List ℕ) (k : ℕ) : Type 0 where
   pub room : 21 + 11 * k ≤ length s
   pub lists : HasLists s k
   pub range_order :
-      is_ascending (range_first (ranges_of s k)) (range_last (ranges_of s k)) (list_count (ranges_of s k)) ≡ true
+      are_ascending (range_first (default_ranges s k)) (range_last (default_ranges s k))
+      (list_count (default_ranges s k)) ≡ true
   pub mapping_order :
-      is_ascending (mapping_code (mappings_of s k)) (mapping_code (mappings_of s k)) (list_count (mappings_of s k))
+      are_ascending (mapping_code (mappings_of s k)) (mapping_code (mappings_of s k)) (list_count (mappings_of s k))
       ≡ true
 
 -- the least code, from one on, that a member has: that at a place; CODES where there is none

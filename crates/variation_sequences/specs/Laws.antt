@@ -15,15 +15,15 @@ FoundIsListed =
     → variant_of s v c ≡ option_map (λ e. e.variant) (find (is_of v c) (entries_of s))
 
 -- a subtable that is written has the size that it states
-abbrev pub MadeHasSize : Type 0
-MadeHasSize = (pairs : List Pair) → length (subtable_bytes pairs) ≡ subtable_size pairs
+abbrev pub SubtableHasSize : Type 0
+SubtableHasSize = (pairs : List Pair) → length (subtable_bytes pairs) ≡ subtable_size pairs
 
 -- what is read of bytes that begin with a subtable that was written: the subtable, which is read, and the pairs
-pub record IsReadBack (pairs : List Pair) : Type 0 where
+pub record ArePairsReadBack (pairs : List Pair) : Type 0 where
   pub whole : (after : List ℕ) → whole_subtable (subtable_bytes pairs ++ after) ≡ Some (subtable_bytes pairs)
   pub strict : is_strict (subtable_bytes pairs) ≡ true
   pub entries : entries_of (subtable_bytes pairs) ≡ map entry_of pairs
 
 -- pairs in order that are written are read back
-abbrev pub MadeIsReadBack : Type 0
-MadeIsReadBack = (pairs : List Pair) → AreOrdered 0 0 pairs → length pairs ≤ MAX_ENTRIES → IsReadBack pairs
+abbrev pub SubtableIsReadBack : Type 0
+SubtableIsReadBack = (pairs : List Pair) → AreOrdered 0 0 pairs → length pairs ≤ MAX_ENTRIES → ArePairsReadBack pairs

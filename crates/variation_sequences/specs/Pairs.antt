@@ -14,8 +14,8 @@ pair_of n of_code e = let g = variant_glyph n of_code (Some e.variant) in
     if nat_eq g 0 then None else Some (record { selector = e.selector; code = e.code; glyph = g })
 
 -- all pairs of a font with this `cmap` and its map to n glyphs, in order
-unfoldable pub pairs_of : List ℕ → (ℕ → ℕ) → ℕ → List Pair
-pairs_of cmap of_code n =
+unfoldable pub sequence_pairs : List ℕ → (ℕ → ℕ) → ℕ → List Pair
+sequence_pairs cmap of_code n =
     option_map_or (λ s. filter_map (λ e. pair_of n (of_code e.code) e) (entries_of s)) (subtable_of cmap) []
 
 -- the part of a glyph: its pairs

@@ -5,7 +5,8 @@ use Rattle.std.specs.List.{filter_map, flat_map, range_with_len}
 use Rattle.std.specs.Option.{option_and_then, option_map}
 use Rattle.codes.specs.declared.code_points.TheConstants.{CODES}
 use Rattle.variation_sequences.specs.Encoding.{subtable_of}
-use Rattle.variation_sequences.specs.Format14.{mapping_glyph, mappings_of, ranges_of, selector_at, selector_count}
+use Rattle.variation_sequences.specs.Format14.{default_ranges, mapping_glyph, mappings_of, selector_at}
+use Rattle.variation_sequences.specs.Format14.{selector_count}
 use Rattle.variation_sequences.specs.Spans.{member_with}
 use Rattle.variation_sequences.specs.Strict.{mapping_with, range_with}
 use Rattle.variation_sequences.specs.declared.variant.Entry.{Entry}
@@ -20,7 +21,7 @@ variant_in t u c =
 
 -- what record k says of a code
 abbrev pub variant_under : List ℕ → ℕ → ℕ → Option Variant
-variant_under s k c = variant_in (ranges_of s k) (mappings_of s k) c
+variant_under s k c = variant_in (default_ranges s k) (mappings_of s k) c
 
 -- the record of a selector
 abbrev pub record_with : List ℕ → ℕ → Option ℕ
@@ -49,15 +50,15 @@ entries_in v t u from =
 
 -- what record k has
 abbrev pub entries_of_record : List ℕ → ℕ → List Entry
-entries_of_record s k = entries_in (selector_at s k) (ranges_of s k) (mappings_of s k) 0
+entries_of_record s k = entries_in (selector_at s k) (default_ranges s k) (mappings_of s k) 0
 
 -- what the records from one on have
-unfoldable pub entries_from : List ℕ → ℕ → List Entry
-entries_from s k = flat_map (entries_of_record s) (range_with_len k (selector_count s - k))
+unfoldable pub entries_from_record : List ℕ → ℕ → List Entry
+entries_from_record s k = flat_map (entries_of_record s) (range_with_len k (selector_count s - k))
 
 -- all that a subtable has, in order of selectors and codes
 unfoldable pub entries_of : List ℕ → List Entry
-entries_of s = entries_from s 0
+entries_of s = entries_from_record s 0
 
 -- an entry is of a selector and a code
 abbrev pub is_of : ℕ → ℕ → Entry → Bool

@@ -10,8 +10,8 @@ is_above first last i =
     nat_le (first i) (last i) && nat_lt (last i) CODES && (nat_eq i 0 || nat_lt (last (i - 1)) (first i))
 
 -- all of n members do
-unfoldable pub is_ascending : (ℕ → ℕ) → (ℕ → ℕ) → ℕ → Bool
-is_ascending first last n = list_all (is_above first last) (range_with_len 0 n)
+unfoldable pub are_ascending : (ℕ → ℕ) → (ℕ → ℕ) → ℕ → Bool
+are_ascending first last n = list_all (is_above first last) (range_with_len 0 n)
 
 -- member i has a code
 abbrev pub has_code : (ℕ → ℕ) → (ℕ → ℕ) → ℕ → ℕ → Bool

@@ -9,14 +9,14 @@ use Rattle.variation_sequences.specs.declared.variant.Pair.{Pair}
 use Rattle.variation_sequences.specs.declared.variant.Variant.TheVariants.{Glyph}
 
 -- the bytes of numbers (OpenType 1.9, Data Types)
-abbrev pub u16_bytes : ℕ → List ℕ
-u16_bytes n = n / 256 ∷ n % 256 ∷ []
+abbrev pub bytes_of_u16 : ℕ → List ℕ
+bytes_of_u16 n = n / 256 ∷ n % 256 ∷ []
 
-abbrev pub u24_bytes : ℕ → List ℕ
-u24_bytes n = n / 65536 ∷ n / 256 % 256 ∷ n % 256 ∷ []
+abbrev pub bytes_of_u24 : ℕ → List ℕ
+bytes_of_u24 n = n / 65536 ∷ n / 256 % 256 ∷ n % 256 ∷ []
 
-abbrev pub u32_bytes : ℕ → List ℕ
-u32_bytes n = n / 16777216 ∷ n / 65536 % 256 ∷ n / 256 % 256 ∷ n % 256 ∷ []
+abbrev pub bytes_of_u32 : ℕ → List ℕ
+bytes_of_u32 n = n / 16777216 ∷ n / 65536 % 256 ∷ n / 256 % 256 ∷ n % 256 ∷ []
 
 -- pairs in front of which another stands: it joins the first of them that have its selector
 abbrev pub with_pair : Pair → List (List Pair) → List (List Pair)
@@ -37,11 +37,11 @@ selector_of (p ∷ ps) = p.selector
 
 -- UVSMapping: unicodeValue and glyphID
 unfoldable pub mapping_bytes : Pair → List ℕ
-mapping_bytes p = u24_bytes p.code ++ u16_bytes p.glyph
+mapping_bytes p = bytes_of_u24 p.code ++ bytes_of_u16 p.glyph
 
 -- a non-default table: numUVSMappings, and the mappings
-unfoldable pub table_bytes : List Pair → List ℕ
-table_bytes group = u32_bytes (length group) ++ flat_map mapping_bytes group
+unfoldable pub mappings_bytes : List Pair → List ℕ
+mappings_bytes group = bytes_of_u32 (length group) ++ flat_map mapping_bytes group
 
 -- how many bytes it has
 abbrev pub table_size : List Pair → ℕ
@@ -54,7 +54,7 @@ placed at (group ∷ groups) = (selector_of group, at) ∷ placed (at + table_si
 
 -- VariationSelector: varSelector, no default table, and the place of the non-default table
 unfoldable pub record_bytes : ℕ × ℕ → List ℕ
-record_bytes record_of = u24_bytes record_of.0 ++ u32_bytes 0 ++ u32_bytes record_of.1
+record_bytes record_of = bytes_of_u24 record_of.0 ++ bytes_of_u32 0 ++ bytes_of_u32 record_of.1
 
 -- how many bytes the subtable has
 abbrev pub subtable_size : List Pair → ℕ
@@ -67,12 +67,12 @@ tables_at pairs = 10 + 11 * length (grouped pairs)
 -- the subtable: format, length, numVarSelectorRecords; the records; the tables
 unfoldable pub subtable_bytes : List Pair → List ℕ
 subtable_bytes pairs =
-    u16_bytes 14 ++ u32_bytes (subtable_size pairs) ++ u32_bytes (length (grouped pairs))
-    ++ flat_map record_bytes (placed (tables_at pairs) (grouped pairs)) ++ flat_map table_bytes (grouped pairs)
+    bytes_of_u16 14 ++ bytes_of_u32 (subtable_size pairs) ++ bytes_of_u32 (length (grouped pairs))
+    ++ flat_map record_bytes (placed (tables_at pairs) (grouped pairs)) ++ flat_map mappings_bytes (grouped pairs)
 
 -- selectors and codes that fit into three bytes
-abbrev pub AreSmall : List Pair → Type 0
-AreSmall = All (λ p. (p.selector < 2 ^ 24) × (p.code < 2 ^ 24))
+abbrev pub HaveSmallNumbers : List Pair → Type 0
+HaveSmallNumbers = All (λ p. (p.selector < 2 ^ 24) × (p.code < 2 ^ 24))
 
 -- a pair has a selector above another one, or the same and a code not below a bound
 abbrev pub IsNotBelow : ℕ → ℕ → Pair → Type 0

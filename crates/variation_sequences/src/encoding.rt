@@ -2,7 +2,7 @@
 ghost use Rattle.std.specs.Prelude.{◌≡◌, ◌+◌, ◌*◌, ◌<◌, ◌≤◌, IfSome, IsTrue, find, length};
 ghost use Rattle.std.specs.List.{range_with_len};
 ghost use Rattle.std.specs.Option.{option_and_then, option_copied};
-ghost use Rattle.variation_sequences.specs.Encoding.{encoding_count, from_subtable, has_later_record, is_sequence_record, sole_record, whole_subtable};
+ghost use Rattle.variation_sequences.specs.Encoding.{encoding_record_count, from_subtable, has_later_record, is_sequence_record, sole_record, whole_subtable};
 
 use sfnt_bytes::{be16, be32};
 
@@ -18,9 +18,9 @@ const SEQUENCES: u16 = 14;
 /// How many bytes a subtable of variation sequences has before its records.
 const SUBTABLE_HEADER: usize = 10;
 
-#[tactic(auto, unfolding(crate::specs::Encoding::encoding_count))]
+#[tactic(auto, unfolding(crate::specs::Encoding::encoding_record_count))]
 fn count_encodings(cmap: &[u8]) -> usize
-    ensures value { result ≡ encoding_count cmap.now }
+    ensures value { result ≡ encoding_record_count cmap.now }
     ensures small { result < 65536 }
 {
     if cmap.len() < HEADER {
@@ -52,7 +52,8 @@ fn has_later_record(cmap: &[u8], k: usize) -> bool
 
 // Returns the index of the first such record.
 fn first_record(cmap: &[u8]) -> Option<usize>
-    ensures value { result ≡ find (is_sequence_record cmap.now) (range_with_len 0 (encoding_count cmap.now)) }
+    ensures value { result ≡ find (is_sequence_record cmap.now)
+        (range_with_len 0 (encoding_record_count cmap.now)) }
     ensures small { IfSome result (λ k. k < 65536) }
     ensures within { IfSome result (λ k. 12 + 8 * k ≤ length cmap.now) }
 {

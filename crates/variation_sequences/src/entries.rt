@@ -4,8 +4,8 @@ ghost use Rattle.std.specs.Prelude.{◌≡◌, [], MatchOption, true};
 ghost use Rattle.std.specs.Iterator.{YieldsFirst, item_count};
 ghost use Rattle.codes.specs.Order.{IsFirstReaching};
 ghost use Rattle.variation_sequences.specs.Format14.{list_count, mapping_code, range_first, range_last};
-ghost use Rattle.variation_sequences.specs.Inside.{IsFirstVariant, IsRecord, NoVariant};
-ghost use Rattle.variation_sequences.specs.Spans.{is_ascending};
+ghost use Rattle.variation_sequences.specs.Inside.{IsFirstVariant, IsSelectorRecord, NoVariant};
+ghost use Rattle.variation_sequences.specs.Spans.{are_ascending};
 ghost use Rattle.variation_sequences.specs.Sequences.{entries_of, entries_of_record};
 ghost use Rattle.variation_sequences.specs.Strict.{is_strict};
 
@@ -26,10 +26,10 @@ fn first_variant(
     j: usize,
     from: u32,
 ) -> Option<(u32, Variant)>
-    requires range_order { is_ascending (range_first ranges.now) (range_last ranges.now)
+    requires range_order { are_ascending (range_first ranges.now) (range_last ranges.now)
         (list_count ranges.now) ≡ true }
     requires range_place { IsFirstReaching (range_last ranges.now) (list_count ranges.now) from i }
-    requires mapping_order { is_ascending (mapping_code mappings.now) (mapping_code mappings.now)
+    requires mapping_order { are_ascending (mapping_code mappings.now) (mapping_code mappings.now)
         (list_count mappings.now) ≡ true }
     requires mapping_place { IsFirstReaching (mapping_code mappings.now) (list_count mappings.now) from j }
     ensures { MatchOption result (NoVariant ranges.now mappings.now from)
@@ -63,7 +63,7 @@ struct RecordEntries<'a> {
 impl<'a> Model for RecordEntries<'a> {
     ghost use Rattle.std.specs.Prelude.{◌≡◌, ℕ, List, true};
     ghost use Rattle.variation_sequences.specs.Format14.{list_count, mapping_code, range_first, range_last};
-    ghost use Rattle.variation_sequences.specs.Spans.{is_ascending};
+    ghost use Rattle.variation_sequences.specs.Spans.{are_ascending};
     ghost use Rattle.variation_sequences.specs.Sequences.{entries_in};
     ghost use Rattle.variation_sequences.specs.declared.variant.Entry.{Entry};
 
@@ -72,8 +72,8 @@ impl<'a> Model for RecordEntries<'a> {
     ghost view = { λ e. entries_in e.selector e.ranges e.mappings e.from };
 
     ghost invariant = { λ e.
-        (is_ascending (range_first e.ranges) (range_last e.ranges) (list_count e.ranges) ≡ true)
-        × (is_ascending (mapping_code e.mappings) (mapping_code e.mappings) (list_count e.mappings)
+        (are_ascending (range_first e.ranges) (range_last e.ranges) (list_count e.ranges) ≡ true)
+        × (are_ascending (mapping_code e.mappings) (mapping_code e.mappings) (list_count e.mappings)
         ≡ true) };
 }
 
@@ -94,7 +94,7 @@ impl<'a> RecordEntries<'a> {
 
     // Returns what a record says.
     fn of(s: &'a [u8], k: usize) -> RecordEntries<'a>
-        requires { IsRecord s.now k }
+        requires { IsSelectorRecord s.now k }
         ensures { result ≡ entries_of_record s.now k }
     {
         RecordEntries {
@@ -146,13 +146,13 @@ pub struct Entries<'a> {
 // Its value is the list of entries that are left.
 impl<'a> Model for Entries<'a> {
     ghost use Rattle.std.specs.Prelude.{◌≡◌, ◌++◌, List, true};
-    ghost use Rattle.variation_sequences.specs.Sequences.{entries_from};
+    ghost use Rattle.variation_sequences.specs.Sequences.{entries_from_record};
     ghost use Rattle.variation_sequences.specs.Strict.{is_strict};
     ghost use Rattle.variation_sequences.specs.declared.variant.Entry.{Entry};
 
     ghost Value = { List Entry };
 
-    ghost view = { λ e. e.now ++ entries_from e.bytes.now e.begun };
+    ghost view = { λ e. e.now ++ entries_from_record e.bytes.now e.begun };
 
     ghost invariant = { λ e. is_strict e.bytes.now ≡ true };
 }

@@ -1,7 +1,7 @@
 //! The variation sequences of a font. OpenType 1.9, cmap, Format 14: Unicode variation sequences.
 ghost use Rattle.std.specs.Prelude.{◌≡◌, ◌≤◌, length};
 ghost use Rattle.variation_sequences.specs.Encoding.{subtable_of};
-ghost use Rattle.variation_sequences.specs.Inside.{IsRecord};
+ghost use Rattle.variation_sequences.specs.Inside.{IsSelectorRecord};
 ghost use Rattle.variation_sequences.specs.declared.strict.TheConstants.{MAX_ENTRIES};
 ghost use Rattle.variation_sequences.specs.Sequences.{entries_of, variant_of, variant_under};
 
@@ -68,7 +68,7 @@ impl<'a> Sequences<'a> {
 // Returns what a record says of a code.
 #[tactic(auto, unfolding(crate::specs::Sequences::variant_in))]
 fn find_under(s: &[u8], k: usize, code: u32) -> Option<Variant>
-    requires { IsRecord s.now k }
+    requires { IsSelectorRecord s.now k }
     ensures { result ≡ variant_under s.now k code }
 {
     if find_member(&Ranges::of(ranges_of(s, k)), code).is_some() {

@@ -1,6 +1,6 @@
 //! The lists of a subtable: records, ranges and mappings. OpenType 1.9, cmap, Format 14: Unicode variation sequences.
 ghost use Rattle.std.specs.Prelude.{◌≡◌, ◌+◌, ◌*◌, ◌<◌, ◌≤◌, ◌^◌, length};
-ghost use Rattle.variation_sequences.specs.Format14.{list_at, list_count, mapping_glyph, mappings_of, range_more, ranges_of, selector_at, selector_count, u24_at};
+ghost use Rattle.variation_sequences.specs.Format14.{list_at, list_count, mapping_glyph, mappings_of, range_more, default_ranges, selector_at, selector_count, u24_at};
 
 use crate::spans::Spans;
 use codes::Ends;
@@ -79,10 +79,10 @@ fn list_at(s: &[u8], offset: u32) -> &[u8]
 }
 
 /// Returns what begins with the default table of a record.
-#[tactic(auto, unfolding(crate::specs::Format14::ranges_of))]
+#[tactic(auto, unfolding(crate::specs::Format14::default_ranges))]
 pub(crate) fn ranges_of(s: &[u8], k: usize) -> &[u8]
     requires { 21 + 11 * k ≤ length s.now }
-    ensures { result.now ≡ ranges_of s.now k }
+    ensures { result.now ≡ default_ranges s.now k }
 {
     list_at(s, be32(s, 13 + RECORD * k))
 }

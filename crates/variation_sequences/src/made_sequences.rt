@@ -2,7 +2,7 @@
 ghost use Rattle.std.specs.Prelude.{◌≡◌, ◌+◌, ◌*◌, ◌<◌, ◌≤◌, ◌^◌, ◌++◌, ◌∷◌, IfOk, OnErr, OnOk, length, nat_eq};
 ghost use Rattle.std.specs.List.{flat_map, prefix_len};
 ghost use Rattle.sfnt_bytes.specs.Memory.{IsRefused};
-ghost use Rattle.variation_sequences.specs.Written.{AreSmall, grouped, mapping_bytes, placed, record_bytes, subtable_bytes, subtable_size, table_bytes, u16_bytes, u24_bytes, u32_bytes};
+ghost use Rattle.variation_sequences.specs.Written.{HaveSmallNumbers, grouped, mapping_bytes, placed, record_bytes, subtable_bytes, subtable_size, mappings_bytes, bytes_of_u16, bytes_of_u24, bytes_of_u32};
 ghost use Rattle.variation_sequences.specs.declared.strict.TheConstants.{MAX_ENTRIES};
 
 use crate::lists::{COUNT, HEADER, MAPPING, RECORD};
@@ -14,7 +14,7 @@ const FORMAT: u16 = 14;
 
 // Puts a `u16` after what is made.
 fn push_u16<A: Memory>(made: &mut Vec<u8, A>, x: u16) -> Result<(), NoMemory>
-    ensures made { OnOk result (made.new.items ≡ made.old.items ++ u16_bytes x) }
+    ensures made { OnOk result (made.new.items ≡ made.old.items ++ bytes_of_u16 x) }
     ensures memory { OnErr result (IsRefused A.refuses) }
 {
     A::append(made, &x.to_be_bytes())
@@ -23,7 +23,7 @@ fn push_u16<A: Memory>(made: &mut Vec<u8, A>, x: u16) -> Result<(), NoMemory>
 // Puts a `u24` after what is made.
 fn push_u24<A: Memory>(made: &mut Vec<u8, A>, x: u32) -> Result<(), NoMemory>
     requires { x < 2 ^ 24 }
-    ensures made { OnOk result (made.new.items ≡ made.old.items ++ u24_bytes x) }
+    ensures made { OnOk result (made.new.items ≡ made.old.items ++ bytes_of_u24 x) }
     ensures memory { OnErr result (IsRefused A.refuses) }
 {
     let bytes = [(x / 65536) as u8, (x / 256 % 256) as u8, (x % 256) as u8];
@@ -32,7 +32,7 @@ fn push_u24<A: Memory>(made: &mut Vec<u8, A>, x: u32) -> Result<(), NoMemory>
 
 // Puts a `u32` after what is made.
 fn push_u32<A: Memory>(made: &mut Vec<u8, A>, x: u32) -> Result<(), NoMemory>
-    ensures made { OnOk result (made.new.items ≡ made.old.items ++ u32_bytes x) }
+    ensures made { OnOk result (made.new.items ≡ made.old.items ++ bytes_of_u32 x) }
     ensures memory { OnErr result (IsRefused A.refuses) }
 {
     A::append(made, &x.to_be_bytes())
@@ -57,7 +57,8 @@ fn split_group(pairs: &[Pair]) -> (&[Pair], &[Pair])
     ensures groups { grouped pairs.now ≡ result.0.now ∷ grouped result.1.now }
     ensures size { length result.0.now + length result.1.now ≡ length pairs.now }
     ensures some { 0 < length result.0.now }
-    ensures small { AreSmall pairs.now → AreSmall result.0.now × AreSmall result.1.now }
+    ensures small { HaveSmallNumbers pairs.now → HaveSmallNumbers result.0.now
+        × HaveSmallNumbers result.1.now }
 {
     pairs.split_at(count_in_front(pairs, pairs[0].selector))
 }
@@ -109,11 +110,11 @@ fn push_mapping<A: Memory>(made: &mut Vec<u8, A>, pair: Pair) -> Result<(), NoMe
 }
 
 // Puts a table after what is made.
-#[tactic(auto, unfolding(crate::specs::Written::table_bytes))]
+#[tactic(auto, unfolding(crate::specs::Written::mappings_bytes))]
 fn push_table<A: Memory>(made: &mut Vec<u8, A>, group: &[Pair]) -> Result<(), NoMemory>
     requires few { length group.now < 2 ^ 32 }
-    requires small { AreSmall group.now }
-    ensures made { OnOk result (made.new.items ≡ made.old.items ++ table_bytes group.now) }
+    requires small { HaveSmallNumbers group.now }
+    ensures made { OnOk result (made.new.items ≡ made.old.items ++ mappings_bytes group.now) }
     ensures memory { OnErr result (IsRefused A.refuses) }
 {
     push_u32(made, group.len() as u32)?;
@@ -126,7 +127,7 @@ fn push_table<A: Memory>(made: &mut Vec<u8, A>, group: &[Pair]) -> Result<(), No
 // Puts the records of all selectors after what is made. Their tables stand end to end from a place on.
 fn push_records<A: Memory>(made: &mut Vec<u8, A>, pairs: &[Pair], at: u32) -> Result<(), NoMemory>
     requires room { at + 4 * length (grouped pairs.now) + 5 * length pairs.now < 2 ^ 32 }
-    requires small { AreSmall pairs.now }
+    requires small { HaveSmallNumbers pairs.now }
     ensures made { OnOk result (made.new.items
         ≡ made.old.items ++ flat_map record_bytes (placed at (grouped pairs.now))) }
     ensures memory { OnErr result (IsRefused A.refuses) }
@@ -145,8 +146,9 @@ fn push_records<A: Memory>(made: &mut Vec<u8, A>, pairs: &[Pair], at: u32) -> Re
 // Puts the tables of all selectors after what is made.
 fn push_tables<A: Memory>(made: &mut Vec<u8, A>, pairs: &[Pair]) -> Result<(), NoMemory>
     requires few { length pairs.now < 2 ^ 32 }
-    requires small { AreSmall pairs.now }
-    ensures made { OnOk result (made.new.items ≡ made.old.items ++ flat_map table_bytes (grouped pairs.now)) }
+    requires small { HaveSmallNumbers pairs.now }
+    ensures made { OnOk result
+        (made.new.items ≡ made.old.items ++ flat_map mappings_bytes (grouped pairs.now)) }
     ensures memory { OnErr result (IsRefused A.refuses) }
 {
     let mut left = pairs;
@@ -168,7 +170,7 @@ fn push_tables<A: Memory>(made: &mut Vec<u8, A>, pairs: &[Pair]) -> Result<(), N
 #[tactic(auto, unfolding(crate::specs::Written::subtable_bytes))]
 pub fn make_subtable<A: Memory>(alloc: A, pairs: &[Pair]) -> Result<Vec<u8, A>, NoMemory>
     requires few { length pairs.now ≤ MAX_ENTRIES }
-    requires small { AreSmall pairs.now }
+    requires small { HaveSmallNumbers pairs.now }
     ensures made { IfOk result (λ made. made.items ≡ subtable_bytes pairs.now) }
     ensures memory { OnErr result (IsRefused A.refuses) }
 {

@@ -2,7 +2,7 @@
 ghost use Rattle.std.specs.Prelude.{◌≡◌, ◌<◌, IfSome, ℕ, true};
 ghost use Rattle.codes.specs.Order.{IsFirstReaching};
 ghost use Rattle.variation_sequences.specs.Inside.{IsNextCode};
-ghost use Rattle.variation_sequences.specs.Spans.{is_above, is_ascending, member_with};
+ghost use Rattle.variation_sequences.specs.Spans.{is_above, are_ascending, member_with};
 
 use codes::{ANYWHERE, CODES, Ends, first_reaching};
 
@@ -28,9 +28,9 @@ fn is_above<S: Spans>(spans: &S, i: usize) -> bool
 }
 
 /// Returns whether all members are in order of their codes.
-#[tactic(auto, unfolding(crate::specs::Spans::is_ascending))]
+#[tactic(auto, unfolding(crate::specs::Spans::are_ascending))]
 pub(crate) fn is_ascending<S: Spans>(spans: &S) -> bool
-    ensures { result ≡ is_ascending (S.first_of spans.now) (S.end_of spans.now) (S.count_of spans.now) }
+    ensures { result ≡ are_ascending (S.first_of spans.now) (S.end_of spans.now) (S.count_of spans.now) }
 {
     (0..spans.count()).all(|i| is_above(spans, i))
 }
@@ -38,7 +38,7 @@ pub(crate) fn is_ascending<S: Spans>(spans: &S) -> bool
 /// Returns the place of the first member that ends at the code or above it, or the number of members where none does.
 /// One close after the place that the hint names is found soon.
 pub(crate) fn place_near<S: Spans>(spans: &S, hint: usize, code: u32) -> usize
-    requires { is_ascending (S.first_of spans.now) (S.end_of spans.now) (S.count_of spans.now) ≡ true }
+    requires { are_ascending (S.first_of spans.now) (S.end_of spans.now) (S.count_of spans.now) ≡ true }
     ensures { IsFirstReaching (S.end_of spans.now) (S.count_of spans.now) code result }
 {
     first_reaching(spans, hint, code)
@@ -46,7 +46,7 @@ pub(crate) fn place_near<S: Spans>(spans: &S, hint: usize, code: u32) -> usize
 
 /// Returns the place of the member that has a code: it is this one, if there is any.
 pub(crate) fn member_at<S: Spans>(spans: &S, place: usize, code: u32) -> Option<usize>
-    requires order { is_ascending (S.first_of spans.now) (S.end_of spans.now) (S.count_of spans.now) ≡ true }
+    requires order { are_ascending (S.first_of spans.now) (S.end_of spans.now) (S.count_of spans.now) ≡ true }
     requires place { IsFirstReaching (S.end_of spans.now) (S.count_of spans.now) code place }
     ensures value { result
         ≡ member_with (S.first_of spans.now) (S.end_of spans.now) (S.count_of spans.now) code }
@@ -63,7 +63,7 @@ pub(crate) fn member_at<S: Spans>(spans: &S, place: usize, code: u32) -> Option<
 
 /// Returns the place of the member that has a code.
 pub(crate) fn find_member<S: Spans>(spans: &S, code: u32) -> Option<usize>
-    requires { is_ascending (S.first_of spans.now) (S.end_of spans.now) (S.count_of spans.now) ≡ true }
+    requires { are_ascending (S.first_of spans.now) (S.end_of spans.now) (S.count_of spans.now) ≡ true }
     ensures value { result
         ≡ member_with (S.first_of spans.now) (S.end_of spans.now) (S.count_of spans.now) code }
     ensures within { IfSome result (λ k. k < S.count_of spans.now) }
@@ -74,7 +74,7 @@ pub(crate) fn find_member<S: Spans>(spans: &S, code: u32) -> Option<usize>
 /// Returns the least code, from `from` on, that a member has, or `CODES` where there is none. The member stands at this
 /// place.
 pub(crate) fn next_code<S: Spans>(spans: &S, place: usize, from: u32) -> u32
-    requires order { is_ascending (S.first_of spans.now) (S.end_of spans.now) (S.count_of spans.now) ≡ true }
+    requires order { are_ascending (S.first_of spans.now) (S.end_of spans.now) (S.count_of spans.now) ≡ true }
     requires place { IsFirstReaching (S.end_of spans.now) (S.count_of spans.now) from place }
     ensures { IsNextCode (S.first_of spans.now) (S.end_of spans.now) (S.count_of spans.now) from place
         result }

@@ -3,7 +3,7 @@ ghost use Rattle.std.specs.Prelude.{◌≡◌, ◌+◌, ◌*◌, ◌<◌, ◌≤
 ghost use Rattle.std.specs.List.{list_all, range_with_len};
 ghost use Rattle.variation_sequences.specs.Format14.{list_count, range_first, range_last, selector_count};
 ghost use Rattle.variation_sequences.specs.Inside.{HasLists};
-ghost use Rattle.variation_sequences.specs.Spans.{is_ascending};
+ghost use Rattle.variation_sequences.specs.Spans.{are_ascending};
 ghost use Rattle.variation_sequences.specs.Strict.{codes_in, entries_under, entry_count, has_lists, has_ordered_lists, has_ordered_selectors, is_apart, is_strict};
 
 use crate::lists::{
@@ -61,7 +61,7 @@ fn codes_in(t: &[u8]) -> u64
 // Returns whether no range has the code of a mapping.
 #[tactic(auto, unfolding(crate::specs::Strict::is_apart))]
 fn is_apart(ranges: &Ranges<'_>, mappings: &Mappings<'_>) -> bool
-    requires { is_ascending (range_first ranges.now) (range_last ranges.now) (list_count ranges.now) ≡ true }
+    requires { are_ascending (range_first ranges.now) (range_last ranges.now) (list_count ranges.now) ≡ true }
     ensures { result ≡ is_apart ranges.now mappings.now }
 {
     let mut place = 0;

@@ -56,8 +56,11 @@ pub(crate) enum CommandError<'a> {
         cut: &'a str,
         font: String,
     },
-    /// FONT, at this path, would be replaced by one of its slices.
-    OverItself(&'a str),
+    /// FONT, at this path, would be replaced by its cut, or by one of its slices.
+    OverItself {
+        writes: Writes,
+        font: &'a str,
+    },
     /// A line of the file at this path is not UTF-8, or has this word, which names no range.
     BadLine {
         path: &'a str,
@@ -146,7 +149,7 @@ impl<'a> CommandError<'a> {
             | CommandError::NoSet
             | CommandError::Replaces { .. }
             | CommandError::OverFont { .. }
-            | CommandError::OverItself(_)
+            | CommandError::OverItself { .. }
             | CommandError::BadLine { .. }
             | CommandError::BadName { .. }
             | CommandError::NameTwice { .. }
@@ -384,11 +387,15 @@ fn write_bad_out<W: fmt::Write>(
                 "{font} is the font, and {cut} a cut of it: nothing was written"
             )
         }
-        CommandError::OverItself(font) => {
+        CommandError::OverItself { writes, font } => {
             let font = Shown(font);
+            let cut = match writes {
+                Writes::Slices => "a slice",
+                Writes::Cut | Writes::Join => "its cut",
+            };
             write!(
                 f,
-                "{font} is the font, and a slice would replace it: nothing was written"
+                "{font} is the font, and {cut} would replace it: nothing was written"
             )
         }
         _ => Ok(()),
@@ -414,7 +421,7 @@ impl fmt::Display for CommandError<'_> {
             | CommandError::PackedFolder
             | CommandError::Replaces { .. }
             | CommandError::OverFont { .. }
-            | CommandError::OverItself(_) => write_bad_out(f, self),
+            | CommandError::OverItself { .. } => write_bad_out(f, self),
             CommandError::BadName { .. }
             | CommandError::NameTwice { .. }
             | CommandError::LongLine { .. }

@@ -366,13 +366,14 @@ fn add_over_font(text: &mut String, writes: Writes, font: &str) -> Result<(), Al
     Ok(())
 }
 
-// Adds how FONT is kept from its slices, and that it can be replaced all the same.
-fn add_over_itself(text: &mut String, font: &str) -> Result<(), AllocError> {
+// Adds how FONT is kept from its cut or its slices, and that it can be replaced all the same.
+fn add_over_itself(text: &mut String, writes: Writes, font: &str) -> Result<(), AllocError> {
     let font = Shown(font);
-    write!(
-        text,
-        "fontcut: name another FOLDER, or the slice otherwise; --force replaces {font}\n"
-    )?;
+    let advice = match writes {
+        Writes::Slices => "name another FOLDER, or the slice otherwise",
+        Writes::Cut | Writes::Join => "name another OUT",
+    };
+    write!(text, "fontcut: {advice}; --force replaces {font}\n")?;
     Ok(())
 }
 
@@ -423,7 +424,7 @@ fn add_known(
         CommandError::NotOfKind { kind, path, .. } => add_not_of_kind(text, *kind, path, seen),
         CommandError::Replaces { file, out } => add_both(text, file, out),
         CommandError::OverFont { writes, font, .. } => add_over_font(text, *writes, font.as_str()),
-        CommandError::OverItself(font) => add_over_itself(text, font),
+        CommandError::OverItself { writes, font } => add_over_itself(text, *writes, font),
         CommandError::BadWord(word) if !names_code(word) => text.push_str(TEXT),
         CommandError::NoSet => text.push_str(SETS),
         CommandError::PackedOut(_) | CommandError::PackedFolder => text.push_str(FORCE),

@@ -1,5 +1,5 @@
 //! The file that a join in place replaces, which is locked; and files that a line would replace by mistake: the font of
-//! which FONT, or one of FILES, is a cut, as where names of files are exchanged; FONT itself by one of its slices; and one
+//! which FONT, or one of FILES, is a cut, as where names of files are exchanged; FONT itself by its cut or a slice; and one
 //! of two cuts that are joined where OUT is forgotten.
 use crate::messages::command_error::{CommandError, Writes, no_memory};
 use crate::paths::regular_files::{may_be_cut_at, read_again};
@@ -7,6 +7,7 @@ use command_line::{Join, STANDARD, Slices, Subset};
 use commands::without_tables;
 use font_coverage::{cut_kind, is_of_layout, kind_of_cut, may_be_cut};
 use font_file::Font;
+use font_theory::Kind;
 use program_files::{HeldFiles, System, locked_file, standing_file};
 use std::alloc::{AllocError, Global};
 use std::fs;
@@ -101,13 +102,30 @@ fn over_font<'a>(alloc: Global, writes: Writes, cut: &'a str, font: &str) -> Com
     }
 }
 
-/// Refuses a line that would replace a font by a cut, where FONT, whose file this is, is a cut of it and that is not
-/// forced. Where nothing stands at OUT, only that is looked at.
+// Refuses to write the cut of FONT over itself, where that is no cut. A full cut may replace its font.
+fn keep_itself<'a>(
+    alloc: Global,
+    kind: Kind,
+    font: &'a str,
+    file: &[u8],
+) -> Result<(), CommandError<'a>> {
+    if kind == Kind::Full || cut_in(alloc, file)?.is_some() {
+        return Ok(());
+    }
+    Err(CommandError::OverItself {
+        writes: Writes::Cut,
+        font,
+    })
+}
+
+/// Refuses a line that would replace a font by a cut, where FONT, whose file this is, is a cut of it, or the font itself
+/// and the cut is no full one, and that is not forced. Where nothing stands at OUT, only that is looked at.
 ///
 /// # Errors
-/// `OverFont` where it would, `Refused` if out of memory.
+/// `OverFont` and `OverItself` where it would, `Refused` if out of memory.
 pub(crate) fn keep_font<'a, F: HeldFiles, I, O>(
     system: &System<'a, F, I, O>,
+    kind: Kind,
     line: &Subset<'a>,
     file: &[u8],
 ) -> Result<(), CommandError<'a>> {
@@ -117,9 +135,10 @@ pub(crate) fn keep_font<'a, F: HeldFiles, I, O>(
     let Some(stands) = standing_file(system.files, system.alloc, line.out)? else {
         return Ok(());
     };
-    if is_file_at(system.files, line.font, &stands)
-        || !may_be_font_at(system.files, line.out, &stands, file.len())
-    {
+    if is_file_at(system.files, line.font, &stands) {
+        return keep_itself(system.alloc, kind, line.font, file);
+    }
+    if !may_be_font_at(system.files, line.out, &stands, file.len()) {
         return Ok(());
     }
     match cut_in(system.alloc, file)? {
@@ -142,7 +161,10 @@ fn may_hold_font<'a, F: HeldFiles, I, O>(
         return Ok(false);
     };
     if is_file_at(system.files, font, &stands) {
-        return Err(CommandError::OverItself(font));
+        return Err(CommandError::OverItself {
+            writes: Writes::Slices,
+            font,
+        });
     }
     Ok(may_be_font_at(system.files, path, &stands, size))
 }

@@ -1,5 +1,5 @@
 use Rattle.std.proofs.Common.{ℕ, rules, length, map, sym, subst, ◌∙◌, ap}
-use Rattle.font_subset.specs.CutOfKind.{cut_in}
+use Rattle.font_subset.specs.CutOfKind.{cut_of}
 use Rattle.font_theory.specs.Kinds.{format_of}
 use Rattle.font_theory.specs.Tree.{union_below}
 use Rattle.font_join.specs.JoinList.{AreCuts, IsSentAs}
@@ -29,7 +29,7 @@ returns-clause-cuts g c = λ F A are.
     (are _ got)) in
     let long = ap length same ∙ got.count in
     let all = subst (λ (n : ℕ). IsSentAs g.W.Write.contents c.args.outlet.now c.join_all_of_kind_into.new.out
-    (cut_in c.args.kind F (union_below A n)) c.in_ok-size.size) long sent in (
+    (cut_of c.args.kind F (union_below A n)) c.in_ok-size.size) long sent in (
       all.size_is,
       sends_end g.W.Write.contents c.args.outlet.now c.join_all_of_kind_into.new.out c.finish.new.self _
           all.sends c.finish.ensures.sends,

@@ -2,11 +2,11 @@ use Rattle.std.proofs.Common.{◌≡◌, ◌≤◌, ◌∙◌, Bool, ℕ, List, 
 use Rattle.font_theory.specs.Content.{Wanted}
 use Rattle.font_theory.specs.declared.kinds.Kind.{Kind}
 use Rattle.font_subset.specs.CutOfFont.{StopsCut}
-use Rattle.font_subset.specs.CutOfKind.{cut_as}
+use Rattle.font_subset.specs.CutOfKind.{opened_font_cut}
 use Rattle.font_subset.specs.KeptGlyphs.{asked, wanted_in}
 use Rattle.sfnt_bytes.specs.declared.directory.TheConstants.{MAX_FILE}
 use Rattle.streams.specs.Outlet.{WentOut}
-use Rattle.commands.specs.Run.{cut_for, of_cut_error, of_open_error, requested, stray_number}
+use Rattle.commands.specs.Run.{requested, requested_cut, run_error_of_cut, run_error_of_open, stray_number}
 use Rattle.commands.specs.declared.run_error.RunError.TheVariants.{Write}
 use Rattle.commands.proofs.HeldLemmas.{holds_of_font}
 use Rattle.commands.proofs.RunLemmas.{cut_err, flush_stops, made_stops, open_stops, sends_end}
@@ -17,7 +17,7 @@ returns-in_err-opened-clause-sends g c =
     let r = requested c.args.request.now in
     let error = c.in_err-opened.field-0.0 in
     cut_err r g.W.Write.contents c.args.font.now c.args.outlet.now c.args.outlet.now c.from_residual.result
-    (of_open_error error) c.from_residual.ensures.1
+    (run_error_of_open error) c.from_residual.ensures.1
     (open_stops r g.W.Write.contents c.args.font.now c.args.outlet.now error
     (sym c.stray_in.ensures ∙ c.in_default.is) c.in_err-opened.ensures.exact)
 
@@ -26,12 +26,12 @@ returns-in_err-size-clause-sends g c =
     let r = requested c.args.request.now in
     let file = c.args.font.now in
     let W : Wanted = wanted_in (asked (Some c.args.request.now.codes.now) (option_copied c.args.request.now.glyphs)) in
-    let made : cut_as c.in_ok-opened.opened W ≡ cut_for r file =
-    ap (λ (v : Kind × (List ℕ × Bool)). cut_as v W) c.in_ok-opened.ensures.exact in
+    let made : opened_font_cut c.in_ok-opened.opened W ≡ requested_cut r file =
+    ap (λ (v : Kind × (List ℕ × Bool)). opened_font_cut v W) c.in_ok-opened.ensures.exact in
     let known : stray_number file r.numbers ≡ None = sym c.stray_in.ensures ∙ c.in_default.is in
     let error = c.in_err-size.field-0.0 in
     cut_err r g.W.Write.contents file c.args.outlet.now c.cut_of_kind_into.new.out c.from_residual-in_err-size.result
-    (of_cut_error error) c.from_residual-in_err-size.ensures.1
+    (run_error_of_cut error) c.from_residual-in_err-size.ensures.1
     (made_stops r g.W.Write.contents file c.args.outlet.now c.cut_of_kind_into.new.out c.in_ok-opened.ensures.sound
     known error (subst (λ (z : List ℕ). StopsCut g.W.Write.contents c.args.outlet.now c.cut_of_kind_into.new.out z
     error) made c.in_err-size.ensures.stops))
@@ -41,8 +41,8 @@ returns-in_err-finish-clause-sends g c =
     let r = requested c.args.request.now in
     let file = c.args.font.now in
     let W : Wanted = wanted_in (asked (Some c.args.request.now.codes.now) (option_copied c.args.request.now.glyphs)) in
-    let made : cut_as c.in_ok-opened.opened W ≡ cut_for r file =
-    ap (λ (v : Kind × (List ℕ × Bool)). cut_as v W) c.in_ok-opened.ensures.exact in
+    let made : opened_font_cut c.in_ok-opened.opened W ≡ requested_cut r file =
+    ap (λ (v : Kind × (List ℕ × Bool)). opened_font_cut v W) c.in_ok-opened.ensures.exact in
     let known : stray_number file r.numbers ≡ None = sym c.stray_in.ensures ∙ c.in_default.is in
     let small = subst (λ (z : List ℕ). length z ≤ MAX_FILE) made c.in_ok-size.ensures.small in
     let sends = subst (λ (z : List ℕ). WentOut g.W.Write.contents c.args.outlet.now c.cut_of_kind_into.new.out z) made
@@ -59,8 +59,8 @@ returns-clause-sends g c =
     let r = requested c.args.request.now in
     let file = c.args.font.now in
     let W : Wanted = wanted_in (asked (Some c.args.request.now.codes.now) (option_copied c.args.request.now.glyphs)) in
-    let made : cut_as c.in_ok-opened.opened W ≡ cut_for r file =
-    ap (λ (v : Kind × (List ℕ × Bool)). cut_as v W) c.in_ok-opened.ensures.exact in
+    let made : opened_font_cut c.in_ok-opened.opened W ≡ requested_cut r file =
+    ap (λ (v : Kind × (List ℕ × Bool)). opened_font_cut v W) c.in_ok-opened.ensures.exact in
     let known : stray_number file r.numbers ≡ None = sym c.stray_in.ensures ∙ c.in_default.is in
     let small = subst (λ (z : List ℕ). length z ≤ MAX_FILE) made c.in_ok-size.ensures.small in
     let sends = subst (λ (z : List ℕ). WentOut g.W.Write.contents c.args.outlet.now c.cut_of_kind_into.new.out z) made

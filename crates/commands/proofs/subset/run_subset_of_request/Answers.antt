@@ -1,7 +1,6 @@
 use Rattle.std.proofs.Common.{◌≡◌, ◌∙◌, ℕ, List, Some, subst}
 use Rattle.font_file.specs.Font.{font_fault}
-use Rattle.commands.specs.Run.{SendsCut}
-use Rattle.commands.specs.Run.{HasCutIn, RefusesCutIn, cut_for, of_read_error, requested}
+use Rattle.commands.specs.Run.{HasCutIn, RefusesCutIn, SendsCut, requested, requested_cut, run_error_of_read}
 use Rattle.commands.specs.declared.run_error.RunError.TheVariants.{Font}
 use Rattle.commands.proofs.RunLemmas.{ends_err, file_sent, file_size, file_stops, font_stops, read_stops}
 use Rattle.commands.proofs.subset.run_subset_of_request.Goals as goal
@@ -9,12 +8,12 @@ use Rattle.commands.proofs.subset.run_subset_of_request.Goals as goal
 pub returns-in_err-file-clause-sent : goal.returns-in_err-file-clause-sent
 returns-in_err-file-clause-sent g c =
     let r = requested c.args.request.now in
-    let stops = read_stops g.R.Read.remaining g.W.Write.contents (HasCutIn r) (cut_for r)
+    let stops = read_stops g.R.Read.remaining g.W.Write.contents (HasCutIn r) (requested_cut r)
     (RefusesCutIn r g.R.Read.remaining c.args.inlet.now)
     c.args.inlet.now c.read_all.new.self c.args.outlet.now c.in_err-file.field-0.0 c.in_err-file.ensures.error in
-    ends_err g.R.Read.remaining g.W.Write.contents (HasCutIn r) (cut_for r)
+    ends_err g.R.Read.remaining g.W.Write.contents (HasCutIn r) (requested_cut r)
     (RefusesCutIn r g.R.Read.remaining c.args.inlet.now) c.args.inlet.now c.read_all.new.self
-    c.args.outlet.now c.args.outlet.now c.from_residual.result (of_read_error c.in_err-file.field-0.0)
+    c.args.outlet.now c.args.outlet.now c.from_residual.result (run_error_of_read c.in_err-file.field-0.0)
     c.from_residual.ensures.1 c.in_err-file.ensures.spent stops
 
 pub returns-in_err-font-clause-sent : goal.returns-in_err-font-clause-sent
@@ -26,7 +25,7 @@ returns-in_err-font-clause-sent g c =
     let stops = file_stops r g.R.Read.remaining g.W.Write.contents c.args.inlet.now c.read_all.new.self
     c.args.outlet.now c.args.outlet.now file c.in_ok-file.ensures.whole c.in_ok-file.ensures.got (Font error)
     (font_stops r g.W.Write.contents file c.args.outlet.now error refused) in
-    ends_err g.R.Read.remaining g.W.Write.contents (HasCutIn r) (cut_for r)
+    ends_err g.R.Read.remaining g.W.Write.contents (HasCutIn r) (requested_cut r)
     (RefusesCutIn r g.R.Read.remaining c.args.inlet.now) c.args.inlet.now c.read_all.new.self
     c.args.outlet.now c.args.outlet.now c.from_residual-in_err-font.result (Font error)
     c.from_residual-in_err-font.ensures.1 c.in_ok-file.ensures.spent stops

@@ -1,6 +1,6 @@
 use Rattle.std.proofs.Common.{◌≡◌, ◌≢◌, ◌∙◌, ℕ, List, subst, sym}
 use Rattle.font_theory.specs.Parted.{entry_size}
-use Rattle.divided_tables.specs.Open.{AreCopied}
+use Rattle.divided_tables.specs.OpenMetrics.{AreCopied}
 use Rattle.divided_tables.proofs.FourLemmas.{entry_size-two}
 use Rattle.divided_tables.proofs.metrics.copy_entry.Goals as goal
 

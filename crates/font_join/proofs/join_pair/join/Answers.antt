@@ -7,12 +7,12 @@ use Rattle.font_theory.specs.declared.kinds.Kind.TheVariants.{Full}
 use Rattle.font_theory.proofs.ContentLemmas.{content-none}
 use Rattle.font_theory.proofs.FontLemmas.{IsFont-accepted}
 use Rattle.font_theory.proofs.KindLemmas.{full-is, full_fault-is, misfit-kind}
-use Rattle.font_subset.specs.CutOfFont.{cut_of}
-use Rattle.font_subset.specs.CutOfKind.{cut_in}
+use Rattle.font_subset.specs.CutOfFont.{full_cut}
+use Rattle.font_subset.specs.CutOfKind.{cut_of}
 use Rattle.font_join.proofs.join_pair.join.Goals as goal
 
 -- in full cuts numbers do not count
-full_own : (x : List ℕ) → font_fault x ≡ None → cut_in Full x everything ≡ cut_of x (λ _. true)
+full_own : (x : List ℕ) → font_fault x ≡ None → cut_of Full x everything ≡ full_cut x (λ _. true)
 unfolding our_format
 full_own x accepted =
     ap (λ (R : Format). cut R x everything) full-is

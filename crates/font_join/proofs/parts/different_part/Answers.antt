@@ -1,6 +1,6 @@
 use Rattle.std.proofs.Common.{◌≤◌, ◌+◌, ◌∙◌, sym, arith}
 use Rattle.font_theory.specs.Content.{Content, glyph_count}
-use Rattle.divided_tables.specs.Open.{has_same_parts}
+use Rattle.divided_tables.specs.DividedTables.{has_same_parts}
 use Rattle.font_join.specs.KindInside.{has_others}
 use Rattle.font_join.proofs.FirstLemmas.{fails_next}
 use Rattle.font_join.proofs.ToldLemmas.{others_found, others_none, others_skip}

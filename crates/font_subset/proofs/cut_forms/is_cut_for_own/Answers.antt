@@ -6,7 +6,7 @@ use Rattle.codes.specs.Wanted.{member}
 use Rattle.font_file.specs.Font.{map_of}
 use Rattle.font_theory.specs.Content.{Wanted, content}
 use Rattle.font_theory.specs.Cut.{Format, Writes}
-use Rattle.font_theory.specs.Kinds.{font_as, format_of}
+use Rattle.font_theory.specs.Kinds.{font_of, format_of}
 use Rattle.font_theory.specs.declared.kinds.Kind.{Kind}
 use Rattle.font_subset.specs.CutOfKind.{own_of}
 use Rattle.font_subset.specs.KeptGlyphs.{asked, glyphs_wanted, wanted_in}
@@ -21,7 +21,7 @@ returns-clause-written g c =
     let file : List ℕ = c.args.cut.now.1 in
     let codes : member c.in_ok-codes.codes ≡ is_mapped (map_of file) =
     c.in_ok-codes.ensures.codes ∙ ap (λ (f : List ℕ). is_mapped (map_of f)) c.font.ensures.font in
-    let glyphs : glyphs_wanted (Some c.deref.result.now) ≡ (font_as held file).there = fun_ext (λ h.
+    let glyphs : glyphs_wanted (Some c.deref.result.now) ≡ (font_of held file).there = fun_ext (λ h.
     ap (λ (l : List ℕ). glyphs_wanted (Some l) h) c.deref.ensures.value ∙ c.in_ok-glyphs.ensures.glyphs h) in
     let same : wanted_in (asked (Some c.in_ok-codes.codes) (Some c.deref.result.now)) ≡ own_of held file =
     λ i. record { codes = codes i; glyphs = glyphs i } in

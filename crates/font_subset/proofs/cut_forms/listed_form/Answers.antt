@@ -1,5 +1,5 @@
 use Rattle.std.proofs.Common.{ap, ◌∙◌}
-use Rattle.font_subset.specs.CutOfKind.{form_as}
+use Rattle.font_subset.specs.CutOfKind.{kind_form}
 use Rattle.font_subset.proofs.SourceLemmas.{Held}
 use Rattle.font_subset.proofs.cut_forms.listed_form.Goals as goal
 
@@ -11,5 +11,5 @@ returns-clause-selection g c = c.into_selection.ensures ∙ c.in_ok-source.ensur
     ∙ c.in_ok-selection.ensures.selection
 
 pub returns-clause-form : goal.returns-clause-form
-returns-clause-form g c = c.form-form.ensures ∙ ap (λ (v : Held). form_as v.0 v.1.0) (c.in_ok-source.ensures.source
+returns-clause-form g c = c.form-form.ensures ∙ ap (λ (v : Held). kind_form v.0 v.1.0) (c.in_ok-source.ensures.source
     ∙ c.in_ok-selection.ensures.selection)

@@ -1,5 +1,5 @@
 use Rattle.std.proofs.Common.{arith, ◌≤◌, nat_lt}
-use Rattle.font_theory.specs.Kinds.{font_as}
+use Rattle.font_theory.specs.Kinds.{font_of}
 use Rattle.font_subset.specs.Inside.{is_between}
 use Rattle.font_subset.proofs.BlankRunLemmas.{below_more}
 use Rattle.font_subset.proofs.PresenceLemmas.{all_there, numbered_more, numbered_same}
@@ -7,7 +7,7 @@ use Rattle.font_subset.proofs.presence.mark_all.Goals as goal
 
 pub returns : goal.returns
 returns g c =
-    let there = (font_as c.args.presence.now.0 c.args.presence.now.1).there in
+    let there = (font_of c.args.presence.now.0 c.args.presence.now.1).there in
     let count = c.glyph_count-count.result in
     let from = c.loop-from.from in
     let order : from ≤ count = omega (arith, c.loop-from.invariant.below) in

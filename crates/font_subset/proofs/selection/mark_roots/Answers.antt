@@ -1,6 +1,6 @@
 use Rattle.std.proofs.Common.{◌∙◌, ℕ, List, ap, option_copied, subst, sym}
 use Rattle.font_tables.specs.Fields.{glyph_count_of}
-use Rattle.font_theory.specs.Kinds.{font_as}
+use Rattle.font_theory.specs.Kinds.{font_of}
 use Rattle.font_theory.specs.declared.kinds.Kind.{Kind}
 use Rattle.font_subset.specs.KeptGlyphs.{glyphs_wanted}
 use Rattle.font_subset.specs.Inside.{AreNumbered, IsOpenedFor}
@@ -15,7 +15,7 @@ with_numbers-requires g c =
 pub returns-in-Some : goal.returns-in-Some
 returns-in-Some g c =
     let same = subst (λ o. IsOpenedFor c.args.kind c.args.font.now (option_copied o)) c.in-Some.is c.requires.opened in
-    let numbered = subst (λ (v : Kind × List ℕ). AreNumbered (font_as v.0 v.1).there
+    let numbered = subst (λ (v : Kind × List ℕ). AreNumbered (font_of v.0 v.1).there
     (glyphs_wanted (option_copied c.args.numbers)) c.args.seeds c.with_numbers.result) same c.with_numbers.ensures in
     record {
       count = numbered.count ∙ c.requires.count;

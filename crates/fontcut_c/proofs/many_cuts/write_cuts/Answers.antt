@@ -1,8 +1,8 @@
 use Rattle.std.proofs.Common.{◌≡◌, ◌∙◌, None, ap, arith, length, map, refl, subst, sym}
 use Rattle.std.proofs.lemmas.List.{length-map}
-use Rattle.commands.specs.Run.{fault_for}
+use Rattle.commands.specs.Run.{requested_fault}
 use Rattle.font_subset.proofs.CutLemmas.{passed_on}
-use Rattle.fontcut_c.specs.Requests.{Asked, asked_at, asked_by, closes_for, request_of}
+use Rattle.fontcut_c.specs.Requests.{RawRequest, asked_at, asked_by, closes_for, request_of}
 use Rattle.fontcut_c.proofs.CutListLemmas.{as_many, files_of_sources, unopened_cuts, written}
 use Rattle.fontcut_c.proofs.RequestLemmas.{asked_is}
 use Rattle.fontcut_c.proofs.many_cuts.write_cuts.Goals as goal
@@ -22,7 +22,7 @@ write_all-requires c =
     let all = map asked_by c.args.requests.now in
     let opened : c.in_ok-opened.opened ≡ (c.args.kind, (c.args.font.now, closes_for c.args.kind (asked_at all 0))) =
     c.in_ok-opened.ensures.0
-    ∙ ap (λ (a : Asked). (c.args.kind, (c.args.font.now, closes_for c.args.kind a)))
+    ∙ ap (λ (a : RawRequest). (c.args.kind, (c.args.font.now, closes_for c.args.kind a)))
     (sym (asked_is c.args.requests.now 0 _ c.requires.some)) in
     let many = length-map c.args.requests.now asked_by in
     as_many c.args.kind c.args.font.now all c.in_ok-opened.opened c.font.result.now
@@ -36,9 +36,10 @@ returns c =
     let first = sym (asked_is c.args.requests.now 0 _ c.requires.some) in
     let opened : c.in_ok-opened.opened ≡ (c.args.kind, (c.args.font.now, closes_for c.args.kind (asked_at all 0))) =
     c.in_ok-opened.ensures.0
-    ∙ ap (λ (a : Asked). (c.args.kind, (c.args.font.now, closes_for c.args.kind a))) first in
-    let fine : fault_for (request_of c.args.kind (asked_at all 0)) c.args.font.now ≡ None =
-    subst (λ (a : Asked). fault_for (request_of c.args.kind a) c.args.font.now ≡ None) first c.in_ok-opened.ensures.1 in
+    ∙ ap (λ (a : RawRequest). (c.args.kind, (c.args.font.now, closes_for c.args.kind a))) first in
+    let fine : requested_fault (request_of c.args.kind (asked_at all 0)) c.args.font.now ≡ None =
+    subst (λ (a : RawRequest). requested_fault (request_of c.args.kind a) c.args.font.now ≡ None) first
+    c.in_ok-opened.ensures.1 in
     let same = files_of_sources c.args.kind c.args.font.now all c.in_ok-opened.opened c.font.result.now
     c.in_ok-sets.sets.items c.as_slice.result.now c.in_ok-sources.sources.items c.as_slice-2.result.now
     c.requires.alike opened c.font.ensures.font c.in_ok-sets.ensures c.as_slice.ensures.value c.in_ok-sources.ensures

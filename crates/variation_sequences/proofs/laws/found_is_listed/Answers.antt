@@ -1,4 +1,4 @@
-use Rattle.variation_sequences.proofs.FoundLemmas as FoundLemmas
+use Rattle.variation_sequences.proofs.FoundLemmas
 use Rattle.variation_sequences.proofs.laws.found_is_listed.Goals as goal
 
 pub returns : goal.returns

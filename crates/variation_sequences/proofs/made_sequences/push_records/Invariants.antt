@@ -1,5 +1,5 @@
 use Rattle.std.proofs.Common.{◌≡◌, ◌+◌, ◌*◌, ◌^◌, ◌<◌, ◌++◌, flat_map, length}
-use Rattle.variation_sequences.specs.Written.{AreSmall, grouped, placed, record_bytes}
+use Rattle.variation_sequences.specs.Written.{HaveSmallNumbers, grouped, placed, record_bytes}
 use Rattle.variation_sequences.proofs.made_sequences.push_records.Given as goal
 
 abbrev pub invariant-loop-left : goal.invariant-loop-left
@@ -7,7 +7,7 @@ invariant-loop-left g l = record {
   put : l.made.items ++ flat_map record_bytes (placed l.place (grouped l.left))
       ≡ l.initial.made.items ++ flat_map record_bytes (placed l.at (grouped l.pairs));
   room : l.place + 4 * length (grouped l.left) + 5 * length l.left < 2 ^ 32;
-  small : AreSmall l.left;
+  small : HaveSmallNumbers l.left;
 }
 
 abbrev pub decreases-loop-left : goal.decreases-loop-left

@@ -1,5 +1,5 @@
 use Rattle.std.proofs.Common.{ap, arith}
-use Rattle.variation_sequences.specs.Format14.{list_count, ranges_of}
+use Rattle.variation_sequences.specs.Format14.{default_ranges, list_count}
 use Rattle.variation_sequences.specs.Strict.{entries_under}
 use Rattle.variation_sequences.proofs.StrictLemmas.{codes_least}
 use Rattle.variation_sequences.proofs.strict.entries_under.Goals as goal
@@ -9,7 +9,7 @@ unfolding entries_under
 returns-then-most-count_list c =
     omega (
       arith,
-      codes_least (ranges_of c.args.s.now c.args.k),
+      codes_least (default_ranges c.args.s.now c.args.k),
       ap list_count c.ranges_of-ranges.ensures,
       ap list_count c.mappings_of.ensures,
     )

@@ -1,7 +1,7 @@
 use Rattle.std.proofs.Common.{◌≡◌, ◌∙◌, sym, None}
 use Rattle.font_glyph.specs.RecordMap.{Records}
 use Rattle.font_theory.specs.Content.{content, everything}
-use Rattle.font_theory.specs.Kinds.{font_as}
+use Rattle.font_theory.specs.Kinds.{font_of}
 use Rattle.font_join.specs.Union.{listed_outline}
 use Rattle.font_join.proofs.AddLemmas.{none_other}
 use Rattle.font_join.proofs.OutlineListLemmas.{taken_whole, union_of_none}
@@ -10,7 +10,7 @@ use Rattle.font_join.proofs.taken_outlines.Outlines.of_file.Goals as goal
 
 pub returns-clause-count : goal.returns-clause-count
 returns-clause-count g c =
-    let L : Records = (content (font_as c.args.file.now.0 c.args.file.now.1) everything).outline in
+    let L : Records = (content (font_of c.args.file.now.0 c.args.file.now.1) everything).outline in
     let none : c.take-other.result ≡ None =
     c.take-other.ensures.differs
     ∙ none_other c.in_ok-outlines.outlines L c.glyph_count-count.result c.in_ok-outlines.ensures.none in
@@ -19,7 +19,7 @@ returns-clause-count g c =
 
 pub returns-clause-outlines : goal.returns-clause-outlines
 returns-clause-outlines g c =
-    let L : Records = (content (font_as c.args.file.now.0 c.args.file.now.1) everything).outline in
+    let L : Records = (content (font_of c.args.file.now.0 c.args.file.now.1) everything).outline in
     let none : c.take-other.result ≡ None =
     c.take-other.ensures.differs
     ∙ none_other c.in_ok-outlines.outlines L c.glyph_count-count.result c.in_ok-outlines.ensures.none in

@@ -2,7 +2,7 @@ use Rattle.std.proofs.Common.{◌≡◌, ◌≤◌, ◌<◌, ◌+◌, ◌⊎◌,
 use Rattle.std.proofs.lemmas.Bool.{cases_lt}
 use Rattle.font_glyph.specs.RecordMap.{Records}
 use Rattle.font_theory.specs.Content.{content, everything, glyph_count}
-use Rattle.font_theory.specs.Kinds.{font_as, tables_as}
+use Rattle.font_theory.specs.Kinds.{font_of, tables_of}
 use Rattle.font_join.specs.Union.{is_other, listed_outline}
 use Rattle.font_join.proofs.FirstLemmas.{fails_next, fails_skip, first_of}
 use Rattle.font_join.proofs.OutlineListLemmas.{other_absent, other_end, other_now, taken_end, taken_more, taken_none}
@@ -11,7 +11,7 @@ use Rattle.font_join.proofs.taken_outlines.Outlines.take.Goals as goal
 
 pub loop-g-init : goal.loop-g-init
 loop-g-init g c =
-    let L : Records = (content (font_as c.args.file.now.0 c.args.file.now.1) everything).outline in
+    let L : Records = (content (font_of c.args.file.now.0 c.args.file.now.1) everything).outline in
     let next = c.next_kept-g.ensures in (
       taken_skip c.args.self.now c.args.self.now L 0 c.next_kept-g.result (omega arith) next.passed
           (taken_none c.args.self.now L),
@@ -22,7 +22,7 @@ loop-g-init g c =
 
 pub loop-g-preserved : goal.loop-g-preserved
 loop-g-preserved g c =
-    let L : Records = (content (font_as c.args.file.now.0 c.args.file.now.1) everything).outline in
+    let L : Records = (content (font_of c.args.file.now.0 c.args.file.now.1) everything).outline in
     let K : Records = listed_outline c.args.self.now in
     let next = c.next_kept-g-in-loop-g.ensures in
     let are = c.loop-g.invariant.0 in
@@ -40,7 +40,7 @@ loop-g-preserved g c =
 
 pub returns-then-take_one-clause-differs : goal.returns-then-take_one-clause-differs
 returns-then-take_one-clause-differs g c =
-    let L : Records = (content (font_as c.args.file.now.0 c.args.file.now.1) everything).outline in
+    let L : Records = (content (font_of c.args.file.now.0 c.args.file.now.1) everything).outline in
     let K : Records = listed_outline c.args.self.now in
     let low : c.loop-g.g < c.args.count = omega (arith, c.loop-g-test.true, c.min-end.ensures) in
     let other = sym (other_now c.args.self.now c.loop-g.self L c.loop-g.g c.take_one.result c.loop-g.invariant.0
@@ -49,8 +49,8 @@ returns-then-take_one-clause-differs g c =
 
 pub returns-clause-differs : goal.returns-clause-differs
 returns-clause-differs g c =
-    let L : Records = (content (font_as c.args.file.now.0 c.args.file.now.1) everything).outline in
-    let past : (c.args.count ≤ c.loop-g.g) ⊎ (glyph_count (tables_as c.args.file.now.0 c.args.file.now.1)
+    let L : Records = (content (font_of c.args.file.now.0 c.args.file.now.1) everything).outline in
+    let past : (c.args.count ≤ c.loop-g.g) ⊎ (glyph_count (tables_of c.args.file.now.0 c.args.file.now.1)
     ≤ c.loop-g.g) =
     elim (cases_lt c.loop-g.g c.args.count) [
       | inl low ↦
@@ -59,13 +59,13 @@ returns-clause-differs g c =
           inl high
     ] in
     other_end (listed_outline c.args.self.now) L c.loop-g.g c.args.count
-    (glyph_count (tables_as c.args.file.now.0 c.args.file.now.1)) (whole_past c.args.file.now.0 c.args.file.now.1
+    (glyph_count (tables_of c.args.file.now.0 c.args.file.now.1)) (whole_past c.args.file.now.0 c.args.file.now.1
     c.requires.form) past c.loop-g.invariant.2
 
 pub returns-clause-taken : goal.returns-clause-taken
 returns-clause-taken g c = λ none.
-    let L : Records = (content (font_as c.args.file.now.0 c.args.file.now.1) everything).outline in
-    let past : (c.args.count ≤ c.loop-g.g) ⊎ (glyph_count (tables_as c.args.file.now.0 c.args.file.now.1)
+    let L : Records = (content (font_of c.args.file.now.0 c.args.file.now.1) everything).outline in
+    let past : (c.args.count ≤ c.loop-g.g) ⊎ (glyph_count (tables_of c.args.file.now.0 c.args.file.now.1)
     ≤ c.loop-g.g) =
     elim (cases_lt c.loop-g.g c.args.count) [
       | inl low ↦
@@ -74,5 +74,5 @@ returns-clause-taken g c = λ none.
           inl high
     ] in
     taken_end c.args.self.now c.loop-g.self L c.loop-g.g c.args.count
-    (glyph_count (tables_as c.args.file.now.0 c.args.file.now.1)) c.requires.count
+    (glyph_count (tables_of c.args.file.now.0 c.args.file.now.1)) c.requires.count
     (whole_past c.args.file.now.0 c.args.file.now.1 c.requires.form) past c.loop-g.invariant.0

@@ -1,7 +1,7 @@
 use Rattle.std.proofs.Common.{◌≡◌, ap, false, sym, subst, true, ◌∙◌}
 use Rattle.font_theory.specs.Content.{content, everything}
 use Rattle.font_theory.specs.Cut.{IsCut, content_of_all}
-use Rattle.font_theory.specs.Kinds.{divides_tables, font_as, format_of}
+use Rattle.font_theory.specs.Kinds.{divides_tables, font_of, format_of}
 use Rattle.font_theory.specs.declared.kinds.Kind.{Kind}
 use Rattle.font_join.specs.Inside.{early_difference}
 use Rattle.font_join.specs.KindInside.{framed}
@@ -20,9 +20,9 @@ returns-then-not-divides_tables-clause-difference g c = λ K h.
     let none : divides_tables u.kind ≡ false =
     is_divided _ u c.self.view_is c.kind.result false c.kind.ensures.kind c.if-not-divides_tables.ensures in
     c.early_difference.ensures
-    ∙ ap (λ (k : Kind). early_difference (content_in u) (content (font_as k c.args.file.now.1) everything))
+    ∙ ap (λ (k : Kind). early_difference (content_in u) (content (font_of k c.args.file.now.1) everything))
     c.requires.same
-    ∙ early_plain u.kind none (content_in u) (content (font_as u.kind c.args.file.now.1) everything) K
+    ∙ early_plain u.kind none (content_in u) (content (font_of u.kind c.args.file.now.1) everything) K
     (content_of_all (format_of u.kind) c.args.file.now.1) h (spells_file u.kind c.args.file.now.1 c.requires.form)
 
 pub returns-clause-difference : goal.returns-clause-difference
@@ -32,8 +32,8 @@ returns-clause-difference g c = λ K h.
     is_divided _ u c.self.view_is c.kind.result true c.kind.ensures.kind c.if-not-divides_tables.ensures in
     c.early_difference-2.ensures
     ∙ (λ i. early_difference (framed (content_in (c.new-first.ensures i)))
-    (framed (content (font_as (c.new-second.ensures i).0 (c.new-second.ensures i).1) everything)))
+    (framed (content (font_of (c.new-second.ensures i).0 (c.new-second.ensures i).1) everything)))
     ∙ ap (λ (k : Kind). early_difference (framed (content_in u))
-    (framed (content (font_as k c.args.file.now.1) everything))) c.requires.same
-    ∙ early_framed u.kind some (content_in u) (content (font_as u.kind c.args.file.now.1) everything) K
+    (framed (content (font_of k c.args.file.now.1) everything))) c.requires.same
+    ∙ early_framed u.kind some (content_in u) (content (font_of u.kind c.args.file.now.1) everything) K
     (content_of_all (format_of u.kind) c.args.file.now.1) h (spells_file u.kind c.args.file.now.1 c.requires.form)

@@ -5,16 +5,16 @@ use Rattle.font_tables.specs.Fields.{glyph_count_of}
 use Rattle.font_theory.specs.Content.{Content, content, everything, glyph_count}
 use Rattle.font_theory.specs.Cut.{IsCut, content_of_all}
 use Rattle.font_theory.specs.Agreement.{Agree}
-use Rattle.font_theory.specs.Kinds.{font_as, format_of, tables_as}
+use Rattle.font_theory.specs.Kinds.{font_of, format_of, tables_of}
 use Rattle.font_theory.specs.declared.kinds.Kind.{Kind}
 use Rattle.font_theory.specs.declared.Difference.TheVariants.{AtGlyph}
 use Rattle.font_theory.proofs.CutLemmas.{is_cut-of}
 use Rattle.font_theory.proofs.KindLemmas.{kind_is}
 use Rattle.map_union.specs.RunLists.{map_in}
 use Rattle.font_join.specs.Inside.{IsAddRefusal}
-use Rattle.divided_tables.specs.Open.{HasFineGvar}
+use Rattle.divided_tables.specs.DividedTables.{AreFine}
 use Rattle.font_join.specs.KindInside.{IsGrown, SpellsIn}
-use Rattle.font_join.specs.Union.{HasShortData, Held, content_in}
+use Rattle.font_join.specs.Union.{HasShortTables, Held, content_in}
 use Rattle.font_join.specs.declared.join_error.JoinError.TheVariants.{NoMemory}
 use Rattle.font_join.specs.declared.join_error.Which.TheVariants.{Second}
 use Rattle.font_join.proofs.JoinLemmas.{form_whole}
@@ -28,29 +28,29 @@ pub take-other-requires-clause-form : goal.take-other-requires-clause-form
 take-other-requires-clause-form g c = subst (λ (k : Kind). IsCut (format_of k) c.args.file.1) (sym c.requires.same)
     c.requires.form
 
-pub gvar_of_both-requires-clause-first : goal.gvar_of_both-requires-clause-first
-gvar_of_both-requires-clause-first g c =
-    subst (λ (v : Held). HasShortData v
-    → HasFineGvar (content_in v).copied) c.self.view_is
+pub united-requires-clause-first : goal.united-requires-clause-first
+united-requires-clause-first g c =
+    subst (λ (v : Held). HasShortTables v
+    → AreFine (content_in v).copied) c.self.view_is
     (fine_union c.self.inside.first.0 _ c.self.invariant.whole c.self.invariant.spells) c.requires.small
 
-pub gvar_of_both-requires-clause-second : goal.gvar_of_both-requires-clause-second
-gvar_of_both-requires-clause-second g c = fine_file c.args.file.0 c.args.file.1
+pub united-requires-clause-second : goal.united-requires-clause-second
+united-requires-clause-second g c = fine_file c.args.file.0 c.args.file.1
     (subst (λ (k : Kind). IsCut (format_of k) c.args.file.1) (sym c.requires.same) c.requires.form)
 
-pub gvar_of_both-requires-clause-count : goal.gvar_of_both-requires-clause-count
-gvar_of_both-requires-clause-count g c =
+pub united-requires-clause-count : goal.united-requires-clause-count
+united-requires-clause-count g c =
     let v : Held = c.args.self in
     let y : List ℕ = c.args.file.1 in
     let K : Content = c.self.invariant.whole in
     let spells : SpellsIn v.kind (content_in v) K =
     subst (λ (w : Held). SpellsIn w.kind (content_in w) K) c.self.view_is c.self.invariant.spells in
-    count_early v.kind (content_in v) (content (font_as v.kind y) everything) K (content_of_all (format_of v.kind) y)
+    count_early v.kind (content_in v) (content (font_of v.kind y) everything) K (content_of_all (format_of v.kind) y)
     spells (spells_file v.kind y c.requires.form) (c.requires.early K spells)
-    ∙ ap (λ (k : Kind). glyph_count (tables_as k y)) (sym c.requires.same)
+    ∙ ap (λ (k : Kind). glyph_count (tables_of k y)) (sym c.requires.same)
 
-pub returns-in_err-gvar-clause-exact : goal.returns-in_err-gvar-clause-exact
-returns-in_err-gvar-clause-exact g c = λ K spells. passed_on _ _ c.from_residual.result NoMemory
+pub returns-in_err-made-clause-exact : goal.returns-in_err-made-clause-exact
+returns-in_err-made-clause-exact g c = λ K spells. passed_on _ _ c.from_residual.result NoMemory
     c.from_residual.ensures.1 tt
 
 -- a glyph that differs, or else a table that has no room
@@ -130,9 +130,9 @@ invariant_of-result g c =
     ∙ c.in_default.is)).0) c.misfit-misfit.result c.misfit-misfit.ensures.told
     (late_none c.least.result c.misfit-misfit.result (sym c.late_refusal.ensures ∙ c.in_default.is)).1
     c.in_ok-map.map c.take-other.new.self c.laid_over-own.result
-    (option_map (λ v. v.items) c.in_ok-gvar.gvar) c.self.invariant.count c.take-other.ensures.taken
+    c.in_ok-made.made c.self.invariant.count c.take-other.ensures.taken
     (c.in_ok-map.ensures.map ∙ ap (united (map_in u.runs)) c.in_ok-runs.ensures.runs.spelled_map)
-    c.in_ok-gvar.ensures.table
+    c.in_ok-made.ensures.tables
     c.laid_over-own.ensures c.self.invariant.whole c.self.invariant.spells c.self.inside.framed c.self.invariant
 
 pub returns-clause-exact : goal.returns-clause-exact
@@ -159,9 +159,9 @@ returns-clause-exact g c = subst (λ (v : Held). (K : Content) → SpellsIn v.ki
     ∙ c.in_default.is)).0) c.misfit-misfit.result c.misfit-misfit.ensures.told
     (late_none c.least.result c.misfit-misfit.result (sym c.late_refusal.ensures ∙ c.in_default.is)).1
     c.in_ok-map.map c.take-other.new.self c.laid_over-own.result
-    (option_map (λ v. v.items) c.in_ok-gvar.gvar) c.self.invariant.count c.take-other.ensures.taken
+    c.in_ok-made.made c.self.invariant.count c.take-other.ensures.taken
     (c.in_ok-map.ensures.map ∙ ap (united (map_in u.runs)) c.in_ok-runs.ensures.runs.spelled_map)
-    c.in_ok-gvar.ensures.table
+    c.in_ok-made.ensures.tables
     c.laid_over-own.ensures K spells)
 
 pub returns-in_err-runs-clause-exact : goal.returns-in_err-runs-clause-exact

@@ -1,9 +1,9 @@
 use Rattle.std.proofs.Common.{◌≡◌, ℕ, List, ap, sym, subst, ◌∙◌}
 use Rattle.font_theory.specs.Content.{content, everything}
 use Rattle.font_theory.specs.Cut.{IsCut, content_of_all}
-use Rattle.font_theory.specs.Kinds.{font_as, format_of, tables_as}
+use Rattle.font_theory.specs.Kinds.{font_of, format_of, tables_of}
 use Rattle.font_theory.specs.declared.kinds.Kind.{Kind}
-use Rattle.divided_tables.specs.Open.{HasFineGvar}
+use Rattle.divided_tables.specs.DividedTables.{AreFine}
 use Rattle.font_join.specs.Inside.{IsFormRefusal}
 use Rattle.font_join.specs.KindInside.{HasFrames, IsOwn, IsUnion, SpellsIn}
 use Rattle.font_join.specs.Union.{Held, content_in}
@@ -21,7 +21,7 @@ returns-in_err-file-clause-exact g c =
 
 pub frames_for_kind-requires : goal.frames_for_kind-requires
 frames_for_kind-requires g c =
-    subst (λ (v : Kind × List ℕ). HasFineGvar (content (font_as v.0 v.1) everything).copied)
+    subst (λ (v : Kind × List ℕ). AreFine (content (font_of v.0 v.1) everything).copied)
     (sym c.in_ok-file.ensures.exact.0)
     (fine_file c.in_ok-opened.opened.0 c.in_ok-opened.opened.1 c.in_ok-file.ensures.exact.1)
 
@@ -38,8 +38,8 @@ invariant_of-result g c =
     c.in_ok-file.ensures.exact.1 in
     let kind : (c.args.kind, c.args.font.now) ≡ file = sym
     (c.in_ok-file.ensures.exact.0 ∙ c.in_ok-opened.ensures.exact) in
-    let copies : IsOwn file.0 (tables_as file.0 file.1) c.in_ok-own.own =
-    subst (λ (v : Kind × List ℕ). IsOwn v.0 (tables_as file.0 file.1) c.in_ok-own.own) kind
+    let copies : IsOwn file.0 (tables_of file.0 file.1) c.in_ok-own.own =
+    subst (λ (v : Kind × List ℕ). IsOwn v.0 (tables_of file.0 file.1) c.in_ok-own.own) kind
     c.in_ok-own.ensures.tables in
     subst (λ (v : Kind × List ℕ). IsUnion (record {
       kind = v.0;
@@ -52,7 +52,7 @@ invariant_of-result g c =
     (c.of_runs.ensures ∙ c.in_ok-runs.ensures.runs.spelled_map) c.in_ok-outlines.ensures.outlines copies
     c.in_ok-framed.framed
     (subst (λ (v : Kind × List ℕ).
-    HasFrames v.0 (content (font_as file.0 file.1) everything).copied c.in_ok-framed.framed) kind
+    HasFrames v.0 (content (font_of file.0 file.1) everything).copied c.in_ok-framed.framed) kind
     c.in_ok-framed.ensures.tables) c.in_ok-outlines.ensures.count)
 
 pub returns-clause-exact : goal.returns-clause-exact
@@ -63,8 +63,8 @@ returns-clause-exact g c =
     c.in_ok-file.ensures.exact.1 in
     let kind : (c.args.kind, c.args.font.now) ≡ file = sym
     (c.in_ok-file.ensures.exact.0 ∙ c.in_ok-opened.ensures.exact) in
-    let copies : IsOwn file.0 (tables_as file.0 file.1) c.in_ok-own.own =
-    subst (λ (v : Kind × List ℕ). IsOwn v.0 (tables_as file.0 file.1) c.in_ok-own.own) kind
+    let copies : IsOwn file.0 (tables_of file.0 file.1) c.in_ok-own.own =
+    subst (λ (v : Kind × List ℕ). IsOwn v.0 (tables_of file.0 file.1) c.in_ok-own.own) kind
     c.in_ok-own.ensures.tables in
     let spells = spells_first file.0 file.1 form c.of_runs.result c.in_ok-outlines.outlines c.in_ok-own.own
     (c.of_runs.ensures ∙ c.in_ok-runs.ensures.runs.spelled_map) c.in_ok-outlines.ensures.outlines copies in

@@ -2,7 +2,7 @@ use Rattle.std.proofs.Common.{◌≡◌, ◌∙◌, ◌++◌, Bool, ℕ, List, O
 use Rattle.std.specs.Option.{is_some}
 use Rattle.font_tables.specs.Fields.{glyph_count_of}
 use Rattle.font_theory.specs.declared.kinds.Kind.{Kind}
-use Rattle.font_subset.specs.CutOfKind.{cut_as}
+use Rattle.font_subset.specs.CutOfKind.{opened_font_cut}
 use Rattle.font_subset.specs.Inside.{is_beyond}
 use Rattle.font_subset.specs.KeptGlyphs.{asked, glyphs_wanted, numbers_in, wanted_in}
 use Rattle.font_subset.proofs.ClosingLemmas.{all_numbers, closed_numbers}
@@ -24,11 +24,11 @@ returns-in_ok-listed-in-Some-glyphs-clause-cut g c =
     closed_numbers c.args.self.now ranges c.recall_opened.ensures.accepted given listed closes
     (λ h. ap (λ (l : List ℕ). glyphs_wanted (Some l) h) are
     ∙ are_among_both given _ (glyph_count_of c.args.self.now.1.0) h)
-    ∙ ap (λ (o : Option (List ℕ)). cut_as c.args.self.now (wanted_in (asked ranges o)))
+    ∙ ap (λ (o : Option (List ℕ)). opened_font_cut c.args.self.now (wanted_in (asked ranges o)))
     (sym (ap (λ o. option_copied o) c.in-Some-glyphs.is))
 
 pub returns-in-None-clause-cut : goal.returns-in-None-clause-cut
 returns-in-None-clause-cut g c =
     all_numbers c.args.self.now c.args.seeds.now.1 c.recall_opened.ensures.accepted
-    ∙ ap (λ (o : Option (List ℕ)). cut_as c.args.self.now (wanted_in (asked c.args.seeds.now.1 o)))
+    ∙ ap (λ (o : Option (List ℕ)). opened_font_cut c.args.self.now (wanted_in (asked c.args.seeds.now.1 o)))
     (sym (ap (λ o. option_copied o) c.in-None.is))

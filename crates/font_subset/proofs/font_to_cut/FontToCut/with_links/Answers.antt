@@ -1,13 +1,13 @@
 use Rattle.std.proofs.Common.{◌≡◌, ℕ, List, Option, MatchOption, false, subst, true}
 use Rattle.font_subset.proofs.CutLemmas.{passed_on}
-use Rattle.font_theory.specs.Links.{is_bad_layout}
+use Rattle.font_theory.specs.Links.{is_unreadable_gsub}
 use Rattle.font_subset.specs.Inside.{AreLinksOf}
 use Rattle.font_subset.proofs.ClosingLemmas.{bad_links}
 use Rattle.font_subset.proofs.ClosingRefusalLemmas.{closing_by_gsub, layout_kept}
 use Rattle.font_subset.proofs.font_to_cut.FontToCut.with_links.Goals as goal
 
 abbrev Read : List ℕ → Option (List (List ℕ)) → Type 0
-Read gsub o = MatchOption o (is_bad_layout gsub ≡ true) (λ listed. (is_bad_layout gsub ≡ false)
+Read gsub o = MatchOption o (is_unreadable_gsub gsub ≡ true) (λ listed. (is_unreadable_gsub gsub ≡ false)
     × AreLinksOf gsub listed)
 
 pub returns-in_err-listed-clause-exact : goal.returns-in_err-listed-clause-exact

@@ -1,7 +1,7 @@
 use Rattle.std.proofs.Common.{◌≡◌, ◌≤◌, ◌<◌, ◌∙◌, ℕ, List, ap, arith, false, length, subst, sym}
 use Rattle.font_tables.specs.Fields.{glyph_count_of}
 use Rattle.font_tables.specs.Outlines.{outline_of}
-use Rattle.font_theory.specs.Kinds.{font_as}
+use Rattle.font_theory.specs.Kinds.{font_of}
 use Rattle.font_theory.specs.declared.kinds.Kind.{Kind}
 use Rattle.font_subset.proofs.PresenceLemmas.{count_held, there_parts}
 use Rattle.font_subset.proofs.presence.Presence.has_none.Goals as goal
@@ -22,5 +22,5 @@ returns g c = λ is h low high.
     let outline : length (outline_of file h) ≡ 0 =
     ap (λ (f : List ℕ). length (outline_of f h)) (sym c.font.ensures.font)
     ∙ c.has_no_outlines.ensures c.if-not-has_no_outlines.false h low high in
-    subst (λ (v : Kind × List ℕ). (font_as v.0 v.1).there h ≡ false) c.self.view_is
+    subst (λ (v : Kind × List ℕ). (font_of v.0 v.1).there h ≡ false) c.self.view_is
     (sym (there_parts kind file _ c.self.invariant h inside false outline (sym (c.has_none.ensures is h low high))))

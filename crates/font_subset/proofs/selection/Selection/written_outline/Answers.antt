@@ -3,7 +3,7 @@ use Rattle.std.specs.Option.{is_some}
 use Rattle.font_tables.specs.Fields.{glyph_count_of}
 use Rattle.font_tables.specs.Outlines.{outline_of}
 use Rattle.font_theory.specs.Content.{content, everything}
-use Rattle.font_theory.specs.Kinds.{font_as}
+use Rattle.font_theory.specs.Kinds.{font_of}
 use Rattle.font_subset.specs.KeptGlyphs.{Asked, IsKeptSet, all_asked, selected, wanted_in}
 use Rattle.font_subset.proofs.ContentOfAllLemmas.{written_below, written_is}
 use Rattle.font_subset.proofs.SourceLemmas.{Held}
@@ -18,9 +18,9 @@ kept_of_all : (v : Held) (kept : List Bool) → v.1.1 ≡ all_asked → Keeps ke
 kept_of_all v kept all = subst (λ (o : Asked). IsKeptSet v.0 v.1.0 (wanted_in o) kept) all
 
 keeps_of_all : (v : Held) (g : ℕ) (keeps : Bool) → v.1.1 ≡ all_asked → keeps ≡ is_some ((selected v).outline g)
-    → keeps ≡ is_some ((content (font_as v.0 v.1.0) everything).outline g)
+    → keeps ≡ is_some ((content (font_of v.0 v.1.0) everything).outline g)
 keeps_of_all v g keeps all =
-    subst (λ (o : Asked). keeps ≡ is_some ((content (font_as v.0 v.1.0) (wanted_in o)).outline g)) all
+    subst (λ (o : Asked). keeps ≡ is_some ((content (font_of v.0 v.1.0) (wanted_in o)).outline g)) all
 
 pub outline-requires : goal.outline-requires
 outline-requires g c =

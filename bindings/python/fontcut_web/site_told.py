@@ -1,0 +1,117 @@
+"""What is said of the pages of a site: what is not known of them, and which characters no font of theirs has."""
+from __future__ import annotations
+
+import os
+from typing import Dict, Iterator, List, NamedTuple, Sequence, Set, Tuple
+
+import fontcut
+
+from . import sequences
+from .common import SHAPED
+from .sets import some_words
+from .shown import BY_FEATURES, FIELDS, LOST, SCRIPTS, added_to
+from .site_fonts import Base
+from .site_pages import Modes, SitePage
+from .site_settings import Settings
+from .site_written import written_by
+from .styles import Source, cased
+
+# Which setting helps with what is not known of a page.
+_CLOSED_FOR_TEXT = ("its cuts are closed, for other text in letters that it shows (exact makes smaller ones, for its "
+                    "own text alone)")
+_LETTERS = "other letters are in no cut: name them by text, unicodes or languages of a [[page]]"
+_ADDED = "text that it adds is not known"
+_CLOSED_FOR_FEATURES = "its cuts are closed, for all features (exact makes smaller ones, for those that are known)"
+# How much of the selectors of a rule is said.
+_LONGEST = 80
+
+
+class _Page(NamedTuple):
+    """A page that has fonts, and these."""
+
+    page: SitePage
+    fonts: List[Base]
+
+
+def _of_pages(found: Sequence[Tuple[Base, Sequence[SitePage]]], pages: Sequence[SitePage]) -> List[_Page]:
+    shows = [(base, {page.name for page in some}) for base, some in found]
+    every = [_Page(page, [base for base, some in shows if page.name in some]) for page in pages]
+    return [one for one in every if one.fonts]
+
+
+def _unknown(one: _Page, modes: Modes) -> Iterator[str]:
+    """What is said of what is not known of a page, and which setting helps with it."""
+    page = one.page
+    is_written = bool(page.written.every or written_by([base.settings for base in one.fonts]).every)
+    is_closed = page.name not in modes.closed and any(base.kind in SHAPED for base in one.fonts)
+    for line in page.shown.unknown if page.name not in modes.exact else ():
+        line = line.replace(BY_FEATURES, "")
+        if line.endswith(SCRIPTS):
+            line = f"{page.shown.path}: it runs scripts"
+            helps = [*([_CLOSED_FOR_TEXT] if is_closed else []), *([] if is_written else [_LETTERS])]
+        else:
+            helps = [*([_ADDED] if line.endswith(LOST) else []), *([_CLOSED_FOR_FEATURES] if is_closed else [])]
+        if helps and not line.endswith(FIELDS):
+            yield f"{line}: {'; '.join(helps)}"
+
+
+def _texts(page: SitePage) -> Iterator[Tuple[Set[int], Source]]:
+    """The characters that are added to a page, with what adds them."""
+    added = added_to(page.page, page.read)
+    for one in added.texts:
+        yield set(map(ord, one.text)), one.source
+    for case, source in added.cases.items():
+        yield {ord(letter) for text in cased(page.shown.text, case, page.page.languages) for letter in text}, source
+
+
+def _origin(settings: Settings, source: Source) -> str:
+    """What adds characters, as it is said."""
+    prelude = source.selectors.prelude
+    name = prelude if len(prelude) <= _LONGEST else f"{prelude[:_LONGEST]}.."
+    if not source.name:
+        return f"browsers add to {name}"
+    if not prelude:
+        return f"{source.name} of an element adds"
+    return f"{name} {{ {source.name} }} of {os.path.relpath(source.path, settings.folder)} adds"
+
+
+def _lacking(settings: Settings, one: _Page) -> Iterator[str]:
+    """The characters that a page has and none of its fonts, with the rules that add them."""
+    page = one.page
+    codes = sorted(sequences.without_selectors({ord(letter) for letter in page.shown.text if letter.isprintable()}))
+    for base in one.fonts:
+        codes = fontcut.missing(base.whole, codes)
+    own = {ord(letter) for letter in f"{page.page.text}{page.written.text}"}
+    texts = list(_texts(page)) if set(codes) - own else []
+    origins: Dict[str, List[int]] = {}
+    for code in codes:
+        source = next((source for some, source in texts if code in some), None) if code not in own else None
+        origins.setdefault(f", which {_origin(settings, source)}" if source else "", []).append(code)
+    yield from (f"{page.name}: no font of it has {some_words(some)}{origin}" for origin, some in origins.items())
+
+
+def _colours(pages: Sequence[_Page]) -> Iterator[str]:
+    """The fonts whose colours cuts drop."""
+    for base in {base.key: base for one in pages for base in one.fonts}.values():
+        colours = fontcut.lost(base.whole, (), kind=base.kind).colours
+        if colours:
+            yield f"{os.path.basename(base.settings.file)} has colours ({colours}), which cuts drop"
+
+
+def told(settings: Settings, modes: Modes, found: Sequence[Tuple[Base, Sequence[SitePage]]], pages: Sequence[SitePage]
+         ) -> Iterator[str]:
+    """What is not known of pages, and which characters no font of theirs has."""
+    shown = _of_pages(found, pages)
+    for one in shown:
+        yield from _unknown(one, modes)
+        page = one.page
+        if page.shown.has_fields and not page.written.letters and not any(
+                base.settings.languages for base in one.fonts):
+            yield (f"{page.shown.path}: readers write to it, and letters that it does not show are of no font of it: "
+                   "name languages of the page or of a font")
+    for one in shown:
+        yield from _lacking(settings, one)
+    yield from _colours(shown)
+    for one in shown:
+        its_fonts = [(os.path.basename(base.settings.file), base.whole.data) for base in one.fonts]
+        yield from (f"{one.page.name}: {line}" for line in sequences.told(one.page.shown.text, its_fonts))

@@ -1,0 +1,418 @@
+//! All divided tables, one field each: open, and made anew. A new one is a `PartedTable` and its place in each of these.
+//! OpenType 1.9, gvar; hmtx; post; vmtx.
+ghost use Rattle.std.specs.Prelude.{◌≡◌, ◌<◌, ◌≤◌, ℕ, List, [], Option, false, true, length, nat_lt, option_copied, unwrap_or, None, Some, IfOk, IsTrue, MatchOption, OnErr};
+ghost use Rattle.std.specs.Option.{option_map, option_or};
+ghost use Rattle.sfnt_bytes.specs.Memory.{IsRefused};
+ghost use Rattle.font_theory.specs.Content.{glyph_count};
+ghost use Rattle.font_theory.specs.Parted.{either_bytes};
+ghost use Rattle.font_theory.specs.Parting.{Tables, frames, may_divide};
+ghost use Rattle.font_write.specs.declared.source.TheConstants.{MAX_TABLE};
+ghost use Rattle.divided_tables.specs.PartedTable.{made_or_laid};
+ghost use Rattle.divided_tables.specs.DividedTables.{AreFine, AreOpen, AreUnionOf, IsKept, all_laid, count_in, finest, has_parts, has_refused, has_same_parts, made_at, none_made, replaced};
+
+use crate::glyph_variations::GlyphVariations;
+use crate::metrics::{Across, Down, Metrics};
+use crate::names::Names;
+use crate::parted_table::{OpenFrom, PartedTable, TablesBySlot, TablesOf};
+use font_write::Source;
+use sfnt_bytes::{GVAR, HMTX, Memory, NoMemory, POST, VMTX};
+use std::alloc::Allocator;
+use std::marker::Model;
+
+/// The divided tables of a font, open.
+#[derive(Drop)]
+pub struct OpenTables<'t> {
+    across: Metrics<'t, Across>,
+    down: Metrics<'t, Down>,
+    names: Names,
+    varied: GlyphVariations<'t>,
+}
+
+// Its value is that of each table.
+impl<'t> Model for OpenTables<'t> {
+    ghost use Rattle.divided_tables.specs.DividedTables.{AreOfGlyphs, OpenParts};
+
+    ghost Value = { OpenParts };
+
+    ghost view = { λ t. record {
+      across = t.across;
+      down = t.down;
+      names = t.names.count;
+      varied = t.varied;
+    } };
+
+    ghost invariant = { λ t. AreOfGlyphs (record {
+      across = t.across;
+      down = t.down;
+      names = t.names.count;
+      varied = t.varied;
+    }) };
+}
+
+impl<'t> OpenTables<'t> {
+    /// Opens the tables of a font, or returns none where one is refused, which is none of an accepted font.
+    pub fn open<B: TablesBySlot<'t>>(tables: &B) -> Option<OpenTables<'t>>
+        ensures { MatchOption result (has_refused (B.tables_in tables.now) ≡ true)
+            (λ parts. AreOpen (B.tables_in tables.now) parts × (has_refused (B.tables_in tables.now) ≡ false)) }
+    {
+        let Some(across) = Metrics::open(tables) else {
+            return None;
+        };
+        let Some(down) = Metrics::open(tables) else {
+            return None;
+        };
+        let Some(names) = Names::open(tables) else {
+            return None;
+        };
+        let Some(varied) = GlyphVariations::open(tables) else {
+            return None;
+        };
+        Some(OpenTables {
+            across,
+            down,
+            names,
+            varied,
+        })
+    }
+
+    /// Opens the tables of a content.
+    pub fn of<S: Source>(source: &'t S) -> OpenTables<'t>
+        requires { AreFine (S.content_of source.now).copied }
+        ensures { AreOpen (S.content_of source.entry.now).copied result }
+    {
+        match OpenTables::open(&TablesOf::new(source)) {
+            Some(tables) => tables,
+            // The tables have been accepted before.
+            None => unreachable!(),
+        }
+    }
+
+    /// Tells whether a glyph has a part that is not empty.
+    pub fn has(&self, g: u16) -> bool
+        requires { g < count_in self.now }
+        ensures { result ≡ has_parts self.now g }
+    {
+        self.across.has(g) || self.down.has(g) || self.names.has(g) || self.varied.has(g)
+    }
+
+    /// Tells whether some glyphs, from one on and below another, surely have no part. It is quick for most glyphs of a cut.
+    pub fn has_none(&self, from: u16, to: u16) -> bool
+        requires order { from < to }
+        requires within { to ≤ count_in self.now }
+        ensures { IsTrue result → (g : ℕ) → from ≤ g → g < to → has_parts self.now g ≡ false }
+    {
+        self.varied.has_none(from, to)
+            && self.names.has_none(from, to)
+            && self.across.has_none(from, to)
+            && self.down.has_none(from, to)
+    }
+
+    /// Tells whether a glyph has the same parts in the tables of another font.
+    pub fn is_same(&self, other: &OpenTables<'t>, g: u16) -> bool
+        requires first { g < count_in self.now }
+        requires second { g < count_in other.now }
+        ensures { result ≡ has_same_parts self.now other.now g }
+    {
+        self.across.is_same(&other.across, g)
+            && self.down.is_same(&other.down, g)
+            && self.names.is_same(&other.names, g)
+            && self.varied.is_same(&other.varied, g)
+    }
+}
+
+// Tells whether the table of a slot may be divided.
+fn is_divided(slot: usize) -> bool
+    ensures { result ≡ may_divide slot }
+{
+    slot == GVAR || slot == HMTX || slot == POST || slot == VMTX
+}
+
+// Returns the bytes of a vector, where there is one.
+fn bytes_of<A: Allocator>(table: &Option<Vec<u8, A>>) -> Option<&[u8]>
+    ensures { MatchOption result (option_map (λ v. v.items) table.now ≡ None)
+        (λ b. option_map (λ v. v.items) table.now ≡ Some b.now) }
+{
+    match table {
+        Some(bytes) => Some(bytes.as_slice()),
+        None => None,
+    }
+}
+
+// Returns a copy of a table that may be missing.
+fn copy_of<A: Memory>(alloc: A, table: Option<&[u8]>) -> Result<Option<Vec<u8, A>>, NoMemory>
+    ensures table { IfOk result (λ o. option_map (λ v. v.items) o ≡ option_copied table.entry) }
+    ensures memory { OnErr result (IsRefused A.refuses) }
+{
+    match table {
+        None => Ok(None),
+        Some(table) => {
+            let bytes = alloc.copy_of(table)?;
+            Ok(Some(bytes))
+        }
+    }
+}
+
+// Lays a table over another: each byte becomes the bitwise or of both, which is the other's if one is 0. Not inlined:
+// alone, its loop takes many bytes at once.
+#[inline(never)]
+fn lay_over(first: &mut [u8], second: &[u8])
+    ensures { first.new ≡ either_bytes first.old second.now }
+{
+    let count = first.len().min(second.len());
+    for j in 0..count {
+        first[j] = first[j] | second[j];
+    }
+}
+
+// Returns a table with another laid over it, none where the first is missing.
+fn either_table<A: Allocator>(
+    first: Option<Vec<u8, A>>,
+    second: Option<&[u8]>,
+) -> Option<Vec<u8, A>>
+    ensures { option_map (λ v. v.items) result
+        ≡ option_map (λ t. either_bytes t (unwrap_or (option_copied second.entry) []))
+        (option_map (λ v. v.items) first) }
+{
+    match first {
+        None => None,
+        Some(mut table) => {
+            lay_over(&mut table, second.unwrap_or(&[]));
+            Some(table)
+        }
+    }
+}
+
+// Returns a table that was made, or where there is none a table with another laid over it.
+fn made_or_laid<A: Allocator>(
+    made: Option<Vec<u8, A>>,
+    first: Option<Vec<u8, A>>,
+    second: Option<&[u8]>,
+) -> Option<Vec<u8, A>>
+    ensures { option_map (λ v. v.items) result
+        ≡ made_or_laid (option_map (λ v. v.items) made) (option_map (λ v. v.items) first)
+        (unwrap_or (option_copied second.entry) []) }
+{
+    match made {
+        Some(table) => Some(table),
+        None => either_table(first, second),
+    }
+}
+
+/// Tables in the slots of those that are divided, each where there is one.
+pub struct MadeTables<A: Allocator> {
+    gvar: Option<Vec<u8, A>>,
+    hmtx: Option<Vec<u8, A>>,
+    post: Option<Vec<u8, A>>,
+    vmtx: Option<Vec<u8, A>>,
+}
+
+// Its value is the bytes of each.
+impl<A: Allocator> Model for MadeTables<A> {
+    ghost use Rattle.std.specs.Option.{option_map};
+    ghost use Rattle.divided_tables.specs.DividedTables.{AreShort, Made};
+
+    ghost Value = { Made };
+
+    ghost view = { λ t. record {
+      gvar = option_map (λ v. v.items) t.gvar;
+      hmtx = option_map (λ v. v.items) t.hmtx;
+      post = option_map (λ v. v.items) t.post;
+      vmtx = option_map (λ v. v.items) t.vmtx;
+    } };
+
+    ghost invariant = { λ t. AreShort (record {
+      gvar = option_map (λ v. v.items) t.gvar;
+      hmtx = option_map (λ v. v.items) t.hmtx;
+      post = option_map (λ v. v.items) t.post;
+      vmtx = option_map (λ v. v.items) t.vmtx;
+    }) };
+}
+
+impl<A: Allocator> Drop for MadeTables<A> {
+    fn drop(self) {
+        let MadeTables {
+            gvar: _gvar,
+            hmtx: _hmtx,
+            post: _post,
+            vmtx: _vmtx,
+        } = self;
+    }
+}
+
+impl<A: Allocator> MadeTables<A> {
+    /// Returns none of them.
+    pub fn none() -> MadeTables<A>
+        ensures { result ≡ none_made }
+    {
+        MadeTables {
+            gvar: None,
+            hmtx: None,
+            post: None,
+            vmtx: None,
+        }
+    }
+
+    /// Returns the table of a slot.
+    pub fn table(&self, slot: usize) -> Option<&[u8]>
+        ensures table { MatchOption result (made_at self.now slot ≡ None) (λ b. made_at self.now slot ≡ Some b.now) }
+        ensures small { MatchOption result Unit (λ b. length b.now ≤ MAX_TABLE) }
+    {
+        if slot == GVAR {
+            return bytes_of(&self.gvar);
+        }
+        if slot == HMTX {
+            return bytes_of(&self.hmtx);
+        }
+        if slot == POST {
+            return bytes_of(&self.post);
+        }
+        if slot == VMTX {
+            return bytes_of(&self.vmtx);
+        }
+        None
+    }
+
+    /// Returns the table of a slot: one of these where the table is divided, or else the one that is given.
+    pub fn or_copied<'t>(&'t self, slot: usize, other: Option<&'t [u8]>) -> Option<&'t [u8]>
+        requires { MatchOption other Unit (λ b. length b.now ≤ MAX_TABLE) }
+        ensures table { (copied : ℕ → Option (List ℕ)) → option_copied other.entry ≡ copied slot →
+            option_copied result ≡ replaced copied self.now slot }
+        ensures small { MatchOption result Unit (λ b. length b.now ≤ MAX_TABLE) }
+    {
+        if is_divided(slot) {
+            return self.table(slot);
+        }
+        other
+    }
+
+    /// Returns these tables with those of a further file laid over them, but where there is a table that was made.
+    pub fn laid_over<S: Source>(self, file: &S, made: MadeTables<A>) -> MadeTables<A>
+        ensures { result ≡ all_laid (S.content_of file.now).copied self made }
+    {
+        let MadeTables {
+            gvar,
+            hmtx,
+            post,
+            vmtx,
+        } = self;
+        let MadeTables {
+            gvar: made_gvar,
+            hmtx: made_hmtx,
+            post: made_post,
+            vmtx: made_vmtx,
+        } = made;
+        MadeTables {
+            gvar: made_or_laid(made_gvar, gvar, file.copied(GVAR)),
+            hmtx: made_or_laid(made_hmtx, hmtx, file.copied(HMTX)),
+            post: made_or_laid(made_post, post, file.copied(POST)),
+            vmtx: made_or_laid(made_vmtx, vmtx, file.copied(VMTX)),
+        }
+    }
+}
+
+impl<A: Memory + Copy> MadeTables<A> {
+    /// Returns the tables that a cut of a content has anew: with the parts of the glyphs that it keeps alone. Where one of
+    /// them is missing, the table of the content serves.
+    ///
+    /// # Errors
+    ///
+    /// `NoMemory` if out of memory.
+    pub fn kept<S: Source>(
+        alloc: A,
+        source: &S,
+        tables: &OpenTables<'_>,
+    ) -> Result<MadeTables<A>, NoMemory>
+        requires opened { AreOpen (S.content_of source.now).copied tables.now }
+        requires fine { AreFine (S.content_of source.now).copied }
+        ensures tables { IfOk result (IsKept (S.content_of source.now)) }
+        ensures memory { OnErr result (IsRefused A.refuses) }
+    {
+        let hmtx = tables.across.kept(alloc, source)?;
+        let post = tables.names.kept(alloc, source)?;
+        let vmtx = tables.down.kept(alloc, source)?;
+        let gvar = tables.varied.kept(alloc, source)?;
+        Ok(MadeTables {
+            gvar,
+            hmtx,
+            post,
+            vmtx,
+        })
+    }
+
+    /// Returns copies of the tables of a content.
+    ///
+    /// # Errors
+    ///
+    /// `NoMemory` if out of memory.
+    pub fn copies<S: Source>(alloc: A, source: &S) -> Result<MadeTables<A>, NoMemory>
+        ensures tables { IfOk result (λ t. replaced (S.content_of source.now).copied t
+            ≡ (S.content_of source.now).copied) }
+        ensures memory { OnErr result (IsRefused A.refuses) }
+    {
+        let hmtx = copy_of(alloc, source.copied(HMTX))?;
+        let post = copy_of(alloc, source.copied(POST))?;
+        let vmtx = copy_of(alloc, source.copied(VMTX))?;
+        let gvar = copy_of(alloc, source.copied(GVAR))?;
+        Ok(MadeTables {
+            gvar,
+            hmtx,
+            post,
+            vmtx,
+        })
+    }
+
+    /// Returns the tables of a content without what they have of single glyphs.
+    ///
+    /// # Errors
+    ///
+    /// `NoMemory` if out of memory.
+    pub fn frames<S: Source>(alloc: A, source: &S) -> Result<MadeTables<A>, NoMemory>
+        requires { AreFine (S.content_of source.now).copied }
+        ensures tables { IfOk result (λ t. replaced (S.content_of source.now).copied t
+            ≡ frames finest (S.content_of source.now).copied) }
+        ensures memory { OnErr result (IsRefused A.refuses) }
+    {
+        let tables = OpenTables::of(source);
+        let hmtx = tables.across.frame(alloc, source)?;
+        let post = tables.names.frame(alloc, source)?;
+        let vmtx = tables.down.frame(alloc, source)?;
+        let gvar = tables.varied.frame(alloc, source)?;
+        Ok(MadeTables {
+            gvar,
+            hmtx,
+            post,
+            vmtx,
+        })
+    }
+
+    /// Returns those tables of the union of two contents that are made anew, and none for a table that is that of the first
+    /// with that of the second laid over it.
+    ///
+    /// # Errors
+    ///
+    /// `NoMemory` if out of memory.
+    pub fn united<K: Source, L: Source>(
+        alloc: A,
+        first: &K,
+        second: &L,
+    ) -> Result<MadeTables<A>, NoMemory>
+        requires first { AreFine (K.content_of first.now).copied }
+        requires second { AreFine (L.content_of second.now).copied }
+        requires count { glyph_count (K.content_of first.now).copied ≡ glyph_count (L.content_of second.now).copied }
+        ensures tables { IfOk result (AreUnionOf (K.content_of first.now) (L.content_of second.now)) }
+        ensures memory { OnErr result (IsRefused A.refuses) }
+    {
+        let one = OpenTables::of(first);
+        let other = OpenTables::of(second);
+        let hmtx = one.across.united(&other.across, alloc, first, second)?;
+        let post = one.names.united(&other.names, alloc, first, second)?;
+        let vmtx = one.down.united(&other.down, alloc, first, second)?;
+        let gvar = one.varied.united(&other.varied, alloc, first, second)?;
+        Ok(MadeTables {
+            gvar,
+            hmtx,
+            post,
+            vmtx,
+        })
+    }
+}

@@ -1,0 +1,11 @@
+pub mod PassedLemmas
+pub mod ReadLemmas
+pub mod CoveredLemmas
+pub mod ReplaceLemmas
+pub mod RunLemmas
+pub mod SameStepLemmas
+pub mod CleanedLemmas
+pub mod NumberLemmas
+pub mod NoneLemmas
+pub mod ClosureLemmas
+pub mod FileLemmas
