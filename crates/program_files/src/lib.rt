@@ -14,6 +14,6 @@ pub use crate::arguments::{unreadable_argument, words_of_line};
 pub use crate::held_files::HeldFiles;
 pub use crate::out_file::{OutFile, Target, standing_file};
 pub use crate::out_writer::OutWriter;
-pub use crate::replaced_files::locked_file;
+pub use crate::replaced_files::{stands_at, writable_file};
 pub use crate::standard_files::fill_standard;
 pub use crate::system::{KeepsReason, Reason, System};

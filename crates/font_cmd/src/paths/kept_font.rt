@@ -1,6 +1,5 @@
-//! The file that a join in place replaces, which is locked; and files that a line would replace by mistake: the font of
-//! which FONT, or one of FILES, is a cut, as where names of files are exchanged; FONT itself by its cut or a slice; and one
-//! of two cuts that are joined where OUT is forgotten.
+//! Files that a line would replace by mistake: the font of which FONT, or one of FILES, is a cut, as where names of files
+//! are exchanged; FONT itself by its cut or a slice; and one of two cuts that are joined where OUT is forgotten.
 use crate::messages::command_error::{CommandError, Writes, no_memory};
 use crate::paths::regular_files::{may_be_cut_at, read_again};
 use command_line::{Join, STANDARD, Slices, Subset};
@@ -8,7 +7,7 @@ use commands::without_tables;
 use font_coverage::{cut_kind, is_of_layout, kind_of_cut, may_be_cut};
 use font_file::Font;
 use font_theory::Kind;
-use program_files::{HeldFiles, System, locked_file, standing_file};
+use program_files::{HeldFiles, System, standing_file};
 use std::alloc::{AllocError, Global};
 use std::fs;
 use std::os::unix::fs::MetadataExt;
@@ -214,8 +213,8 @@ pub(crate) fn keep_from_slices<'a, F: HeldFiles, I, O>(
     }
 }
 
-// Returns whether a file is at one of some paths.
-fn is_among<F: HeldFiles>(files: &F, paths: &[&str], stands: &fs::Metadata) -> bool {
+/// Returns whether a file is at one of some paths.
+pub(crate) fn is_among<F: HeldFiles>(files: &F, paths: &[&str], stands: &fs::Metadata) -> bool {
     for path in paths {
         if is_file_at(files, path, stands) {
             return true;
@@ -248,26 +247,6 @@ fn may_replace_font<F: HeldFiles, I, O>(
             !is_among(system.files, &line.files, &stands) && !may_be_cut_at(system.files, line.out),
         ),
         None => Ok(false),
-    }
-}
-
-/// Waits for the lock of the file that stands at OUT, where it is one of FILES too, and returns it. So joins in place go one
-/// after another, and each has what those before it have added. Where such a file has no lock, none is waited for.
-///
-/// # Errors
-/// `AllocError` if out of memory.
-pub(crate) fn locked_out<F: HeldFiles, I, O>(
-    system: &System<'_, F, I, O>,
-    line: &Join<'_>,
-) -> Result<Option<F::File>, AllocError> {
-    if line.out == STANDARD {
-        return Ok(None);
-    }
-    match standing_file(system.files, system.alloc, line.out)? {
-        Some(stands) if is_among(system.files, &line.files, &stands) => {
-            locked_file(system.files, system.alloc, line.out)
-        }
-        _ => Ok(None),
     }
 }
 
