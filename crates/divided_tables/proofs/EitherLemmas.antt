@@ -1,17 +1,16 @@
 -- Tables that are laid over others.
-use Rattle.std.proofs.Common.{◌≡◌, ℕ, ◌<◌, ◌≤◌, ◌⊎◌, Bool, true, false, cond, List, [], get_or, length, Option, None}
+use Rattle.std.proofs.Common.{◌≡◌, ℕ, ◌<◌, ◌≤◌, ◌⊎◌, cond, List, [], get_or, length, Option, None}
 use Rattle.std.proofs.Common.{Some, is_some, unwrap_or, inl, inr, refl, sym, ap, ◌∙◌, subst, arith}
 use Rattle.std.specs.Int.Bits.{bit_or, or_self, or_zero_l, or_zero_r}
 use Rattle.std.specs.Option.{option_map}
 use Rattle.std.proofs.lemmas.Bool.{cases_lt}
-use Rattle.std.proofs.lemmas.List.{ext_get_or, get_or_past}
-use Rattle.std.proofs.lemmas.List.FromFn.{fill_by_all, get_or-map-range_with_len}
+use Rattle.std.proofs.lemmas.List.{get_or_past}
+use Rattle.std.proofs.lemmas.List.FromFn.{fill_by_all}
 use Rattle.font_theory.specs.Content.{Content, glyph_count}
-use Rattle.font_theory.specs.Parted.{either_bytes, holder, is_entry, laid, metrics, nameless, pairs_of, place_in_entry}
+use Rattle.font_theory.specs.Parted.{either_bytes, laid, metrics, nameless, pairs_of}
 use Rattle.font_theory.specs.Parting.{Tables, context}
-use Rattle.font_theory.proofs.EntryLemmas.{get_or-laid, length-laid}
 use Rattle.font_theory.proofs.HeldLemmas.{cases_option}
-use Rattle.font_theory.proofs.KindJoinLemmas.{length-either_bytes}
+use Rattle.font_theory.proofs.KindJoinLemmas.{either_bytes-self, laid-either, length-either_bytes}
 use Rattle.font_write.specs.declared.source.TheConstants.{MAX_TABLE}
 use Rattle.divided_tables.specs.PartedTable.{IsUnionOf, made_or_laid}
 
@@ -51,36 +50,6 @@ either_all t b now stop past are =
       ]
     ])
 
-get_or-either_bytes : (x y : List ℕ) (j : ℕ) → j < length x → get_or (either_bytes x y) j 0 ≡ bit_or (get_or x j 0)
-    (get_or y j 0)
-unfolding either_bytes
-get_or-either_bytes x y j low = get_or-map-range_with_len (λ j. bit_or (get_or x j 0) (get_or y j 0)) 0 (length x) j j 0
-    low (omega arith)
-
-either_bytes-self : (x : List ℕ) → either_bytes x x ≡ x
-either_bytes-self x =
-    let size = length-either_bytes x x in
-    ext_get_or 0 _ _ (omega arith) (λ j low. get_or-either_bytes x x j (omega arith) ∙ or_self (get_or x j 0))
-
--- the bytes of glyphs in a table that is laid over another are those of either, where one has none
-laid-either : (u first second : ℕ → List ℕ) (k n : ℕ) (t : List ℕ)
-    → ((g w : ℕ) → get_or (u g) w 0 ≡ bit_or (get_or (first g) w 0) (get_or (second g) w 0))
-    → either_bytes (laid first k n t) (laid second k n t) ≡ laid u k n t
-laid-either u first second k n t each =
-    let a = length-laid u k n t in
-    let b = length-laid first k n t in
-    let d = length-either_bytes (laid first k n t) (laid second k n t) in
-    sym (ext_get_or 0 _ _ (omega arith) (λ j low.
-    get_or-laid u k n t j (omega arith) ∙ byte j (is_entry k n j)
-    ∙ (λ i. bit_or (sym (get_or-laid first k n t j (omega arith)) i) (sym (get_or-laid second k n t j (omega arith)) i))
-    ∙ sym (get_or-either_bytes (laid first k n t) (laid second k n t) j (omega arith))))
-  where
-    byte : (j : ℕ) (e : Bool) → cond e (get_or (u (holder k j)) (place_in_entry k j) 0) (get_or t j 0)
-        ≡ bit_or (cond e (get_or (first (holder k j)) (place_in_entry k j) 0) (get_or t j 0))
-        (cond e (get_or (second (holder k j)) (place_in_entry k j) 0) (get_or t j 0))
-    byte j true = each (holder k j) (place_in_entry k j)
-    byte j false = sym (or_self (get_or t j 0))
-
 -- the parts of glyphs in the union of two contents, byte by byte
 module _ (C E : Content) (P Q : ℕ → List ℕ) (first_kept : (g : ℕ) → C.outline g ≡ None → P g ≡ [])
     (second_kept : (g : ℕ) → E.outline g ≡ None → Q g ≡ [])
@@ -119,7 +88,7 @@ metrics_united header slot C E = λ c P Q are.
         ≡ option_map (λ f. laid R (pairs_of (context c) header f) (glyph_count (context c)) f) o
     go c P Q R each None = refl
     go c P Q R each (Some f) =
-        ap Some (laid-either R P Q (pairs_of (context c) header f) (glyph_count (context c)) f each)
+        ap Some (sym (laid-either R P Q (pairs_of (context c) header f) (glyph_count (context c)) f each))
 
 pub names_united : (slot : ℕ) (C E : Content) → IsUnionOf nameless slot C E None
 unfolding nameless

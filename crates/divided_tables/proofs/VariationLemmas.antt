@@ -14,10 +14,9 @@ use Rattle.sfnt_bytes.specs.declared.directory.TheConstants.{MAX_FILE}
 use Rattle.sfnt_bytes.specs.declared.tag.TheConstants.{FVAR, GVAR}
 use Rattle.font_variations.specs.Gvar.{data_of, data_offset, from_data, front_of, is_bad_variations}
 use Rattle.font_variations.specs.Gvar.{shared_tuples_length, shared_tuples_of, shared_tuples_offset}
-use Rattle.font_variations.specs.MadeGvar.{data_at, gvar_bytes, listed_data, offset_bytes, tuples_at, u16_bytes}
-use Rattle.font_variations.specs.MadeGvar.{u32_bytes}
+use Rattle.font_variations.specs.MadeGvar.{data_at, gvar_bytes, listed_data}
 use Rattle.font_variations.proofs.GivenLemmas.{listed_by_index, made_of_listed}
-use Rattle.font_variations.proofs.LawLemmas.{lead_in_order, listed_same, made_read, parts_fit}
+use Rattle.font_variations.proofs.LawLemmas.{lead_in_order, made_read, parts_fit}
 use Rattle.font_variations.proofs.MadeLemmas.{length-made}
 use Rattle.font_theory.specs.Content.{Content, glyph_count, is_bad_variations_in, table_in_slot}
 use Rattle.font_theory.specs.Kinds.{by_variations, reduced}
@@ -25,6 +24,7 @@ use Rattle.font_theory.specs.Parted.{gvar_with, variation_data, variations}
 use Rattle.font_theory.specs.Parting.{Tables, context, frames, is_bad_at}
 use Rattle.font_theory.proofs.PartLemmas.{parts_of-alike}
 use Rattle.font_theory.proofs.PartedLemmas.{gvar_with-again}
+use Rattle.font_theory.proofs.KindJoinLemmas.{gvar_with-same}
 use Rattle.font_theory.proofs.WordLemmas.{count-context, part-data, variation_data-none}
 use Rattle.font_write.specs.Parts.{IsNextKept}
 use Rattle.font_write.specs.declared.source.TheConstants.{MAX_TABLE}
@@ -395,15 +395,6 @@ module _ (K : Content) where
   pub gvar_missing : K.copied GVAR ≡ None → K.copied GVAR ≡ (reduced (alone variations) K).copied GVAR
   unfolding reduced
   gvar_missing e = e ∙ sym (ap (option_map _) e)
-
--- a `gvar` is made of the data of the glyphs that there are
-gvar_with-same : (f g : ℕ → List ℕ) (n : ℕ) → ((j : ℕ) → j < n → f j ≡ g j) → gvar_with f n ≡ gvar_with g n
-unfolding gvar_bytes
-gvar_with-same f g n same =
-    let listed = listed_same f g 0 n (λ j low. same j (omega arith)) in
-    λ i. λ table. let shared : List ℕ = shared_tuples_of table in
-    front_of table ++ (u32_bytes (tuples_at n) ++ (u16_bytes n ++ (u16_bytes 1 ++ (u32_bytes (data_at shared n)
-    ++ (offset_bytes (listed i) ++ (shared ++ concat (listed i)))))))
 
 -- so a union has a `gvar` that is made of the data of both
 module _ (C E : Content) (c : Tables) (P Q : ℕ → List ℕ) (are : AreJoinable variations GVAR C E c P Q) where

@@ -20,7 +20,7 @@ use Rattle.font_layout.specs.declared.step.Step.TheVariants.{Part, Fault}
 abbrev pub each_below : ℕ → (ℕ → List Step) → List Step
 each_below n steps = flat_map steps (range_with_len 0 n)
 
--- a step for what is gone into, with the offsets that lead to it, and those steps_within; a fault where it is not there
+-- a step for what is gone into, with the offsets that lead to it, and those within; a fault where it is not there
 abbrev pub steps_within : {X : Type 0} → Option X → (X → ℕ) → (X → List Step) → List Step
 steps_within there offsets steps = option_map_or (λ x. Part (offsets x) ∷ steps x) there (Fault ∷ [])
 

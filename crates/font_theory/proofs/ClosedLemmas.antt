@@ -105,7 +105,7 @@ module _ (links : ℕ → List ℕ) (m : ℕ → ℕ) where
         (closed-decides W g)) i;
   }
 
-  -- the closure of what either_wanted wants
+  -- the closure of what either wants
   module _ (past : (c : ℕ) → CODES ≤ c → m c ≡ 0) where
     past_on : (codes : ℕ → Bool) (c : ℕ) → CODES ≤ c → restricted codes m c ≡ 0
     past_on codes c h = restricted-cases codes m (λ g. g ≡ 0) c (past c h) refl

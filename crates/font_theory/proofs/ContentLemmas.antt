@@ -138,7 +138,7 @@ seeds-less F A B ok less =
     go true false x h = let e : false ≡ true = h refl in cc
     go false b x h = inl refl
 
--- what is wanted wanted_within a cut keeps no more than the cut
+-- what is wanted within a cut keeps no more than the cut
 module _ (F : Font) (A B : Wanted) (ok : IsFont F) where
   pub IsKept-less : (g : ℕ) → IsKept F (wanted_within F A B) g → IsKept F A g
   IsKept-less g (seed h) = elim (is_root-tells F (wanted_within F A B) g h) [
@@ -152,7 +152,7 @@ pub read_back-reached : (F : Font) (A : Wanted) → IsFont F → (g : ℕ) → I
     → (read_back (content F A)).outline g ≡ padded (F.outline g)
 read_back-reached F A ok g r = read_back-kept F A g ((is_kept-decides F A ok g).1 r)
 
--- a cut of a cut is a cut for what is wanted wanted_within it
+-- a cut of a cut is a cut for what is wanted within it
 pub content-read_back : (F : Font) (A B : Wanted) → IsFont F → content (read_back (content F A)) B
     ≡ content F (wanted_within F A B)
 content-read_back F A B ok =

@@ -329,7 +329,7 @@ module _ (K L : Content) (okK : IsClosedContent K) (okL : IsClosedContent L) (ag
           ap (λ x. when x (padded (unwrap_or (union.outline g) []))) t ∙ ap (λ o. Some (padded (unwrap_or o []))) w.1
           ∙ ap Some h.1 ∙ sym w.1
 
--- two contents of one font agree, and their union is its content for what either_wanted wants
+-- two contents of one font agree, and their union is its content for what either wants
 module _ (F : Font) (A B : Wanted) (ok : IsFont F) where
   pub Agree-content : Agree (content F A) (content F B)
   Agree-content = record {

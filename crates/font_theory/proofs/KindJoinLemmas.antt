@@ -130,18 +130,18 @@ pub length-either_bytes : (x y : List ℕ) → length (either_bytes x y) ≡ len
 unfolding either_bytes
 length-either_bytes x y = length-map-range_with_len (λ j. bit_or (get_or x j 0) (get_or y j 0)) 0 (length x)
 
-get_or-either_bytes : (x y : List ℕ) (j : ℕ) → j < length x → get_or (either_bytes x y) j 0 ≡ bit_or (get_or x j 0)
+pub get_or-either_bytes : (x y : List ℕ) (j : ℕ) → j < length x → get_or (either_bytes x y) j 0 ≡ bit_or (get_or x j 0)
     (get_or y j 0)
 unfolding either_bytes
 get_or-either_bytes x y j low = get_or-map-range_with_len (λ j. bit_or (get_or x j 0) (get_or y j 0)) 0 (length x) j j 0
     low (omega arith)
 
-either_bytes-self : (x : List ℕ) → either_bytes x x ≡ x
+pub either_bytes-self : (x : List ℕ) → either_bytes x x ≡ x
 either_bytes-self x =
     let size = length-either_bytes x x in
     ext_get_or 0 _ _ (omega arith) (λ j low. get_or-either_bytes x x j (omega arith) ∙ or_self (get_or x j 0))
 
-laid-either : (u first second : ℕ → List ℕ) (k n : ℕ) (t : List ℕ)
+pub laid-either : (u first second : ℕ → List ℕ) (k n : ℕ) (t : List ℕ)
     → ((g w : ℕ) → get_or (u g) w 0 ≡ bit_or (get_or (first g) w 0) (get_or (second g) w 0))
     → laid u k n t ≡ either_bytes (laid first k n t) (laid second k n t)
 laid-either u first second k n t each =
@@ -166,7 +166,7 @@ join_table f g h None e = refl
 join_table f g h (Some t) e = ap Some (e t)
 
 -- a `gvar` is made of the data of the glyphs that there are
-gvar_with-same : (f g : ℕ → List ℕ) (n : ℕ) → ((j : ℕ) → j < n → f j ≡ g j) → gvar_with f n ≡ gvar_with g n
+pub gvar_with-same : (f g : ℕ → List ℕ) (n : ℕ) → ((j : ℕ) → j < n → f j ≡ g j) → gvar_with f n ≡ gvar_with g n
 unfolding gvar_bytes
 gvar_with-same f g n same =
     let listed = listed_same f g 0 n (λ j low. same j (omega arith)) in

@@ -293,7 +293,7 @@ module _ (s : Settings) (is : AreSettings s) (how : DividesAs s) where
     okF' : IsFont (divided by_metrics (leaned F))
     okF' = IsFont-divided by_metrics IsPartition-metrics _ (IsFont-leaned F ok)
 
-    -- what is wanted of a lean cut wanted_within the cut before it
+    -- what is wanted of a lean cut within the cut before it
     abbrev W : Wanted
     W = wanted_within (divided p F) A B
 
@@ -377,7 +377,7 @@ module _ (s : Settings) (is : AreSettings s) (how : DividesAs s) where
         (λ g r. outline_same g (kept_before g r)) (λ g r. parts_same g (kept_before g r))
         (λ g r. lean_there g (kept_before g r))
 
-  -- the lean cut of a cut is that of the font, for what is wanted wanted_within the cut
+  -- the lean cut of a cut is that of the font, for what is wanted within the cut
   pub cut-lean : (X : List ℕ) → fault_by s X ≡ None → (A : Wanted) (Y : List ℕ)
       → Writes (format_by s) (content ((format_by s).font X) A) Y → length Y ≤ MAX_FILE → (B : Wanted) → IsNumbered s B
       → cut (format_by lean_settings) Y B ≡ cut (format_by lean_settings) X (wanted_within ((format_by s).font X) A B)

@@ -90,7 +90,7 @@ everything = record { codes = λ _. true; glyphs = λ _. true }
 abbrev pub of_codes : (ℕ → Bool) → Wanted
 of_codes codes = record { codes = codes; glyphs = λ _. false }
 
--- what either_wanted of two wants
+-- what either of two wants
 abbrev pub either_wanted : Wanted → Wanted → Wanted
 either_wanted V W = record { codes = λ c. V.codes c || W.codes c; glyphs = λ g. V.glyphs g || W.glyphs g }
 
@@ -117,7 +117,7 @@ content F wanted = record {
   there = λ g. is_kept F wanted g && F.there g;
 }
 
--- what is wanted wanted_within what a cut keeps: the codes of both, and of the glyphs those that it keeps
+-- what is wanted within what a cut keeps: the codes of both, and of the glyphs those that it keeps
 abbrev pub wanted_within : Font → Wanted → Wanted → Wanted
 wanted_within F V W = record { codes = λ c. V.codes c && W.codes c; glyphs = λ g. is_kept F V g && W.glyphs g }
 

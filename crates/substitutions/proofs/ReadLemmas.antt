@@ -101,33 +101,35 @@ pub record IsCoverage (table : List ℕ) (at : ℕ) (ranged : Bool) (coverage : 
   pub place : coverage.at ≡ at + 4
   pub count : coverage.count ≡ u16_at table (at + 2)
 
+-- one whose items, of so many bytes each, are counted behind its format
+abbrev coverage_of : ℕ → Bool → ℕ → Coverage
+coverage_of place ranged n = record { ranged = ranged; at = place + 4; count = n }
+
+coverage-counted : (table : List ℕ) (place size : ℕ) (ranged : Bool) (coverage : Coverage)
+    → option_map (coverage_of place ranged) (counted table (place + 2) size) ≡ Some coverage
+    → IsCoverage table place ranged coverage
+coverage-counted table place size ranged coverage h =
+    let there = some_mapped _ (counted table (place + 2) size) coverage h in
+    let is = sym there.2 in
+    record {
+      form = ap (λ (c : Coverage). c.ranged) is;
+      place = ap (λ (c : Coverage). c.at) is;
+      count = ap (λ (c : Coverage). c.count) is ∙ counted-tells table (place + 2) size there.0 there.1;
+    }
+
 pub coverage-lists : (table : List ℕ) (at offset : ℕ) (coverage : Coverage)
     → coverage_at table at offset ≡ Some coverage → 0 < offset → u16_at table (at + offset) ≡ 1
     → IsCoverage table (at + offset) false coverage
 unfolding coverage_at
 coverage-lists table at offset coverage h some form =
-    let no = some_offset offset some in
-    let there = some_mapped _ (counted table (at + offset + 2) 2) coverage (rw (no, form) at h) in
-    let is = sym there.2 in
-    record {
-      form = ap (λ (c : Coverage). c.ranged) is;
-      place = ap (λ (c : Coverage). c.at) is;
-      count = ap (λ (c : Coverage). c.count) is ∙ counted-tells table (at + offset + 2) 2 there.0 there.1;
-    }
+    coverage-counted table (at + offset) 2 false coverage (rw (some_offset offset some, form) at h)
 
 pub coverage-ranges : (table : List ℕ) (at offset : ℕ) (coverage : Coverage)
     → coverage_at table at offset ≡ Some coverage → 0 < offset → u16_at table (at + offset) ≡ 2
     → IsCoverage table (at + offset) true coverage
 unfolding coverage_at
 coverage-ranges table at offset coverage h some form =
-    let no = some_offset offset some in
-    let there = some_mapped _ (counted table (at + offset + 2) 6) coverage (rw (no, form) at h) in
-    let is = sym there.2 in
-    record {
-      form = ap (λ (c : Coverage). c.ranged) is;
-      place = ap (λ (c : Coverage). c.at) is;
-      count = ap (λ (c : Coverage). c.count) is ∙ counted-tells table (at + offset + 2) 6 there.0 there.1;
-    }
+    coverage-counted table (at + offset) 6 true coverage (rw (some_offset offset some, form) at h)
 
 -- an item of a Coverage
 pub record IsSpan (table : List ℕ) (coverage : Coverage) (k first last index : ℕ) : Type 0 where

@@ -70,24 +70,24 @@ module _ (table : List ℕ) (g i at : ℕ) (rule : Rule) (passed : IsPassed tabl
       rw place at linked))
 
   -- a Sequence or an AlternateSet
-  row_linked : (kind row k : ℕ) → eqb kind 1 ≡ false → (eqb kind 2 || eqb kind 3) ≡ true
+  row_linked : (kind outputs k : ℕ) → eqb kind 1 ≡ false → (eqb kind 2 || eqb kind 3) ≡ true
       → rule_at table kind at ≡ Some rule → u16_at table at ≡ 1 → i < u16_at table (at + 4)
-      → LeadsTo (u16_at table (at + 6 + 2 * i)) at row → k < u16_at table row
-      → IsLink table g (u16_at table (row + 2 + 2 * k))
+      → LeadsTo (u16_at table (at + 6 + 2 * i)) at outputs → k < u16_at table outputs
+      → IsLink table g (u16_at table (outputs + 2 + 2 * k))
   unfolding rule_at rule_entry entry_step sequence_at
-  row_linked kind row k other own h form few to low =
+  row_linked kind outputs k other own h form few to low =
       let there = some_mapped _ (counted table (at + 4) 2) rule (rw (form, other, own) at h) in
       let inside = lt-ltb i there.0 (omega (arith, few, counted-tells table (at + 4) 2 there.0 there.1)) in
       let offset = some_offset (u16_at table (at + 6 + 2 * i)) to.some in
-      let place : at + u16_at table (at + 6 + 2 * i) ≡ row = to.sum in
+      let place : at + u16_at table (at + 6 + 2 * i) ≡ outputs = to.sum in
       let here = rw (inside, offset, place) at (subst same (sym there.2) passed) in
-      elim (option_cases (counted table row 2)) [
+      elim (option_cases (counted table outputs 2)) [
         | inl none ↦ absurd (passed_fault table (rw none at here))
         | inr n ↦
             let is = n.1 in
-            passed_link table (arrow g (u16_at table (row + 2 + 2 * k)))
-            (passed_item table (λ j. link g (u16_at table (row + 2 + 2 * j))) n.0 k (rw is at here)
-            (omega (arith, low, counted-tells table row 2 n.0 n.1)))
+            passed_link table (arrow g (u16_at table (outputs + 2 + 2 * k)))
+            (passed_item table (λ j. link g (u16_at table (outputs + 2 + 2 * j))) n.0 k (rw is at here)
+            (omega (arith, low, counted-tells table outputs 2 n.0 n.1)))
       ]
 
   ligature_linked : (set k ligature : ℕ) → rule_at table 4 at ≡ Some rule → u16_at table at ≡ 1

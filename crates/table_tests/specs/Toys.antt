@@ -1,6 +1,6 @@
 -- A divided table of the tests' own: a byte that is of no glyph, and then a byte of each glyph.
-use Rattle.std.specs.Prelude.{None, Some}
-use Rattle.std.specs.Prelude.{◌≡◌, ℕ, ◌+◌, ◌-◌, nat_eq, true, List, [], ◌∷◌, length, map, slice_index, if◌then◌else◌}
+use Rattle.std.specs.Prelude.{◌≡◌, ◌⊎◌, ℕ, ◌+◌, ◌-◌, nat_eq, Bool, true, List, [], ◌∷◌, length, map, slice_index}
+use Rattle.std.specs.Prelude.{if◌then◌else◌, None, Some}
 use Rattle.std.specs.List.{range_with_len}
 use Rattle.sfnt_bytes.specs.declared.tag.TheConstants.{MAXP}
 use Rattle.font_theory.specs.Content.{glyph_count, table_in_slot}
@@ -39,6 +39,10 @@ pub record AreToysOf (c : Tables) (o : OpenToys) : Type 0 where
 
 abbrev pub toys_parts : OpenToys → GlyphParts
 toys_parts o = record { count = o.count; part = λ g. toy (slice_index o.bytes (g + 1)) }
+
+-- a table of either of two fonts is refused
+abbrev pub IsEitherRefused : (Tables → Bool) → Tables → Tables → Type 0
+IsEitherRefused refuses c d = (refuses c ≡ true) ⊎ (refuses d ≡ true)
 
 -- the tables of a font of three glyphs that has toys alone
 unfoldable pub toys_alone : List ℕ → Tables

@@ -1,9 +1,10 @@
 //! Toys, by what any divided table gives.
-ghost use Rattle.std.specs.Prelude.{◌≡◌, ◌<◌, ◌⊎◌, MatchOption, true};
+ghost use Rattle.std.specs.Prelude.{◌≡◌, ◌<◌, MatchOption};
 ghost use Rattle.std.specs.Str.{bytes_eq};
 ghost use Rattle.font_theory.specs.Content.{glyph_count};
 ghost use Rattle.font_theory.specs.Parting.{parts_of};
 ghost use Rattle.divided_tables.specs.PartedTable.{alone};
+ghost use Rattle.table_tests.specs.Toys.{IsEitherRefused};
 
 use crate::toys::{TOYS, Toys};
 use divided_tables::{OpenFrom, PartedTable, TablesBySlot};
@@ -49,7 +50,7 @@ fn is_same_part<'t, B: TablesBySlot<'t>, T: OpenFrom<'t, B> + Drop>(
 ) -> Option<bool>
     requires first { g < glyph_count (B.tables_in first.now) }
     requires second { g < glyph_count (B.tables_in second.now) }
-    ensures { MatchOption result ((T.refuses (B.tables_in first.now) ≡ true) ⊎ (T.refuses (B.tables_in second.now) ≡ true))
+    ensures { MatchOption result (IsEitherRefused T.refuses (B.tables_in first.now) (B.tables_in second.now))
         (λ same. same ≡ bytes_eq (parts_of (alone T.parting) (B.tables_in first.now) T.slot g)
         (parts_of (alone T.parting) (B.tables_in second.now) T.slot g)) }
 {
