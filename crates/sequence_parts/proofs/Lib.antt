@@ -1,0 +1,5 @@
+pub mod EntryLemmas
+pub mod MergeLemmas
+pub mod OrderLemmas
+pub mod PartLemmas
+pub mod TableLemmas
