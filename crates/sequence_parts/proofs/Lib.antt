@@ -1,4 +1,5 @@
 pub mod EntryLemmas
+pub mod LawLemmas
 pub mod MergeLemmas
 pub mod OrderLemmas
 pub mod PartLemmas

@@ -115,7 +115,7 @@ module _ (n : ℕ) (parts : ℕ → List ℕ) where
   part-of_parts g h = part-here g 0 n (omega arith) (omega (arith, h))
 
 -- room
-no_clash : (ps : List Pair) → have_room ps ≡ true → first_twice ps ≡ None
+pub no_clash : (ps : List Pair) → have_room ps ≡ true → first_twice ps ≡ None
 unfolding have_room
 no_clash ps t = by_case (first_twice ps) (and_parts _ _ t).0
   where
@@ -123,7 +123,7 @@ no_clash ps t = by_case (first_twice ps) (and_parts _ _ t).0
     by_case None e = refl
     by_case (Some x) e = absurd (both_ways false refl e)
 
-few_pairs : (ps : List Pair) → have_room ps ≡ true → length ps ≤ MAX_PAIRS
+pub few_pairs : (ps : List Pair) → have_room ps ≡ true → length ps ≤ MAX_PAIRS
 unfolding have_room
 few_pairs ps t = leb-true (length ps) MAX_PAIRS (and_parts _ _ t).1
 

@@ -1,8 +1,52 @@
 -- Laws of variation sequences as a divided table, this project's own, each of them the contract of a function.
-use Rattle.std.specs.Prelude.{false}
-use Rattle.font_theory.specs.Parting.{IsParting}
-use Rattle.sequence_parts.specs.SequenceTable.{sequences}
+use Rattle.std.specs.Prelude.{◌≡◌, ℕ, ◌<◌, ◌⊎◌, false, true, List, [], None}
+use Rattle.variation_sequences.specs.Pairs.{part_of, sequence_pairs}
+use Rattle.font_theory.specs.Content.{glyph_count}
+use Rattle.font_theory.specs.Parting.{IsParting, Tables}
+use Rattle.sequence_parts.specs.SequenceTable.{first_clash, sequences, sequences_of_font, table_of}
 
 -- variation sequences are divided as is asked, and no table of them is bad
-abbrev pub SequencesArePart : Type 0
-SequencesArePart = IsParting (λ _ _. false) sequences
+abbrev pub SequencesAreDivided : Type 0
+SequencesAreDivided = IsParting (λ _ _. false) sequences
+
+-- the map of a font is to the glyphs that there are
+abbrev pub MapsToGlyphs : Tables → (ℕ → ℕ) → Type 0
+MapsToGlyphs c of_code = (code : ℕ) → of_code code < glyph_count c
+
+-- the table of a font
+abbrev pub table_among : Tables → List ℕ → (ℕ → ℕ) → List ℕ
+table_among c cmap of_code = sequences_of_font cmap of_code (glyph_count c)
+
+-- in the table of a font the part of a glyph is its pairs, and the parts fit
+pub record HasOwnParts (c : Tables) (cmap : List ℕ) (of_code : ℕ → ℕ) : Type 0 where
+  pub part :
+      (g : ℕ) → sequences.part c (table_among c cmap of_code) g
+      ≡ table_of (part_of (sequence_pairs cmap of_code (glyph_count c)) g)
+  pub fits : sequences.fits c [] (sequences.part c (table_among c cmap of_code)) ≡ true
+
+abbrev pub FontHasOwnParts : Type 0
+FontHasOwnParts =
+    (c : Tables) (cmap : List ℕ) (of_code : ℕ → ℕ) → MapsToGlyphs c of_code → HasOwnParts c cmap of_code
+
+-- the table of the parts of a font is the table of the font
+abbrev pub PartsAreTheTable : Type 0
+PartsAreTheTable =
+    (c : Tables) (cmap : List ℕ) (of_code : ℕ → ℕ) → MapsToGlyphs c of_code
+    → sequences.whole c [] (sequences.part c (table_among c cmap of_code)) ≡ table_among c cmap of_code
+
+-- so is the table of parts that fit that of its own parts
+abbrev pub WholeIsOfItsParts : Type 0
+WholeIsOfItsParts =
+    (c : Tables) (parts : ℕ → List ℕ) → sequences.fits c [] parts ≡ true
+    → sequences.whole c [] (sequences.part c (sequences.whole c [] parts)) ≡ sequences.whole c [] parts
+
+-- a family of parts is of one table: it has of each glyph the part of that table, or nothing
+abbrev pub AreOf : Tables → List ℕ → (ℕ → List ℕ) → Type 0
+AreOf c t parts = (g : ℕ) → (parts g ≡ []) ⊎ (parts g ≡ sequences.part c t g)
+
+-- parts from either of two families of one table fit, and nothing is in two of them: no font has two that clash
+abbrev pub PartsOfOneTableFit : Type 0
+PartsOfOneTableFit =
+    (c : Tables) (t : List ℕ) (P Q : ℕ → List ℕ) → AreOf c t P → AreOf c t Q
+    → ((parts : ℕ → List ℕ) → ((g : ℕ) → (parts g ≡ P g) ⊎ (parts g ≡ Q g)) → sequences.fits c [] parts ≡ true)
+    × (first_clash (glyph_count c) P Q ≡ None)

@@ -4,4 +4,7 @@
 
 mod laws;
 
-pub use crate::laws::sequences_are_divided;
+pub use crate::laws::{
+    font_has_own_parts, parts_are_the_table, parts_of_one_table_fit, sequences_are_divided,
+    whole_is_of_its_parts,
+};
