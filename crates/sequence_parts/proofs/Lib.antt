@@ -1,3 +1,4 @@
+pub mod ClashLemmas
 pub mod EntryLemmas
 pub mod LawLemmas
 pub mod MergeLemmas

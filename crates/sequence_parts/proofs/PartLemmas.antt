@@ -52,7 +52,7 @@ part-none : (g : ℕ) → part_of [] g ≡ []
 unfolding part_of
 part-none g = refl
 
-part-filter : (ps : List Pair) (g : ℕ) → part_of ps g ≡ filter (λ p. eqb p.glyph g) ps
+pub part-filter : (ps : List Pair) (g : ℕ) → part_of ps g ≡ filter (λ p. eqb p.glyph g) ps
 unfolding part_of
 part-filter ps g = refl
 

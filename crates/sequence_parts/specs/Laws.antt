@@ -1,9 +1,10 @@
 -- Laws of variation sequences as a divided table, this project's own, each of them the contract of a function.
-use Rattle.std.specs.Prelude.{◌≡◌, ℕ, ◌<◌, ◌⊎◌, false, true, List, [], None}
+use Rattle.std.specs.Prelude.{◌≡◌, ◌≢◌, ℕ, ◌<◌, ◌⊎◌, false, true, List, [], None, Some}
 use Rattle.variation_sequences.specs.Pairs.{part_of, sequence_pairs}
 use Rattle.font_theory.specs.Content.{glyph_count}
 use Rattle.font_theory.specs.Parting.{IsParting, Tables}
-use Rattle.sequence_parts.specs.SequenceTable.{first_clash, sequences, sequences_of_font, table_of}
+use Rattle.sequence_parts.specs.SequenceTable.{either_part, first_clash, has_sequence, sequences}
+use Rattle.sequence_parts.specs.SequenceTable.{sequences_of_font, table_of}
 
 -- variation sequences are divided as is asked, and no table of them is bad
 abbrev pub SequencesAreDivided : Type 0
@@ -50,3 +51,17 @@ PartsOfOneTableFit =
     (c : Tables) (t : List ℕ) (P Q : ℕ → List ℕ) → AreOf c t P → AreOf c t Q
     → ((parts : ℕ → List ℕ) → ((g : ℕ) → (parts g ≡ P g) ⊎ (parts g ≡ Q g)) → sequences.fits c [] parts ≡ true)
     × (first_clash (glyph_count c) P Q ≡ None)
+
+-- the selector and code that is named is in the parts of two glyphs
+abbrev pub ClashIsInTwoParts : Type 0
+ClashIsInTwoParts =
+    (n : ℕ) (P Q : ℕ → List ℕ) (v c : ℕ) → first_clash n P Q ≡ Some (v, c)
+    → (g : ℕ) × (h : ℕ) × (g ≢ h) × (has_sequence n (either_part P Q) v c g ≡ true)
+    × (has_sequence n (either_part P Q) v c h ≡ true)
+
+-- parts of two glyphs that have one selector and code do not fit
+abbrev pub TwoPartsDoNotFit : Type 0
+TwoPartsDoNotFit =
+    (t : Tables) (parts : ℕ → List ℕ) (v c g h : ℕ) → g < glyph_count t → h < glyph_count t → g ≢ h
+    → has_sequence (glyph_count t) parts v c g ≡ true → has_sequence (glyph_count t) parts v c h ≡ true
+    → sequences.fits t [] parts ≡ false

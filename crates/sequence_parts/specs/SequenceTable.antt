@@ -2,7 +2,7 @@
 -- and nothing is of no single glyph (OpenType 1.9, cmap, Format 14: Unicode variation sequences).
 use Rattle.std.specs.Prelude.{ℕ, ◌+◌, ◌*◌, nat_eq, nat_le, nat_lt, not, Bool, ◌&&◌, List, [], ◌∷◌, length, is_some}
 use Rattle.std.specs.Prelude.{if◌then◌else◌, None, Option, Some}
-use Rattle.std.specs.List.{filter_map, range_with_len}
+use Rattle.std.specs.List.{filter_map, list_any, range_with_len}
 use Rattle.sfnt_bytes.specs.Number.{u32_at}
 use Rattle.codes.specs.declared.code_points.TheConstants.{CODES}
 use Rattle.variation_sequences.specs.Encoding.{is_whole}
@@ -72,6 +72,10 @@ MAX_PAIRS = 1048576
 -- no selector and code is in two parts, and there are not too many pairs
 unfoldable pub have_room : List Pair → Bool
 have_room ps = not (is_some (first_twice ps)) && nat_le (length ps) MAX_PAIRS
+
+-- the part of a glyph has this selector and code
+unfoldable pub has_sequence : ℕ → (ℕ → List ℕ) → ℕ → ℕ → ℕ → Bool
+has_sequence n parts v c g = list_any (λ p. nat_eq p.selector v && nat_eq p.code c) (pairs_at n parts g)
 
 -- how the table of variation sequences is divided
 unfoldable pub sequences : Parting

@@ -1,5 +1,5 @@
 //! Laws of variation sequences as a divided table: the contract of each function is what it says.
-ghost use Rattle.sequence_parts.specs.Laws.{FontHasOwnParts, PartsAreTheTable, PartsOfOneTableFit, SequencesAreDivided, WholeIsOfItsParts};
+ghost use Rattle.sequence_parts.specs.Laws.{ClashIsInTwoParts, FontHasOwnParts, PartsAreTheTable, PartsOfOneTableFit, SequencesAreDivided, TwoPartsDoNotFit, WholeIsOfItsParts};
 
 /// Variation sequences are divided by glyph as each divided table is.
 pub fn sequences_are_divided()
@@ -24,4 +24,14 @@ pub fn whole_is_of_its_parts()
 /// Parts from either of two families of one table fit, so no font has two parts that clash.
 pub fn parts_of_one_table_fit()
     ensures { PartsOfOneTableFit }
+{}
+
+/// The selector and code that a refusal names is in the parts of two glyphs.
+pub fn clash_is_in_two_parts()
+    ensures { ClashIsInTwoParts }
+{}
+
+/// Parts of two glyphs that have one selector and code do not fit.
+pub fn two_parts_do_not_fit()
+    ensures { TwoPartsDoNotFit }
 {}
