@@ -9,77 +9,75 @@ use Rattle.codes.specs.declared.code_points.TheConstants.{CODES}
 use Rattle.variation_sequences.specs.declared.variant.Pair.{Pair}
 use Rattle.font_theory.specs.Content.{glyph_count}
 use Rattle.sequence_parts.specs.Laws.{ClashIsInTwoParts, TwoPartsDoNotFit}
-use Rattle.sequence_parts.specs.SequenceTable.{either_part, first_clash, first_twice, has_sequence, have_room, pairs_at}
-use Rattle.sequence_parts.specs.SequenceTable.{pairs_of_parts, place_of, sequences}
+use Rattle.sequence_parts.specs.OrderedPairs.{first_twice, is_pair_of, place_of}
+use Rattle.sequence_parts.specs.SequenceTable.{either_part, first_clash, has_sequence, have_room, pairs_at}
+use Rattle.sequence_parts.specs.SequenceTable.{pairs_of_parts, sequences}
 use Rattle.sequence_parts.proofs.MergeLemmas.{Sorts}
 use Rattle.sequence_parts.proofs.OrderLemmas.{Rises, rises_from}
 use Rattle.sequence_parts.proofs.PartLemmas.{at-among, among-sorts, part-filter, part-of_parts, room_rises}
 use Rattle.sequence_parts.proofs.TableLemmas.{AreAmong, IsPairAmong}
 
--- a pair of this selector and code, and one of a glyph
-abbrev is_at : ℕ → ℕ → Pair → Bool
-is_at v c p = eqb p.selector v && eqb p.code c
-
+-- a pair of a glyph
 abbrev of_glyph : ℕ → Pair → Bool
 of_glyph g p = eqb p.glyph g
 
 -- pairs of a glyph have a selector and code
 abbrev Has : ℕ → ℕ → ℕ → List Pair → Type 0
-Has v c g ps = list_any (is_at v c) (filter (of_glyph g) ps) ≡ true
+Has v c g ps = list_any (is_pair_of v c) (filter (of_glyph g) ps) ≡ true
 
-at_place : (v c : ℕ) (p : Pair) → is_at v c p ≡ true → place_of p ≡ CODES * v + c
+pub at_place : (v c : ℕ) (p : Pair) → is_pair_of v c p ≡ true → place_of p ≡ CODES * v + c
 unfolding place_of
 at_place v c p t =
     let both = and_parts (eqb p.selector v) (eqb p.code c) t in
     omega (arith, eqb-true p.selector v both.0, eqb-true p.code c both.1)
 
 -- one more pair in front
-has_tail : (v c g : ℕ) (p : Pair) (ps : List Pair) → Has v c g (p ∷ ps) → is_at v c p ≡ false → Has v c g ps
+has_tail : (v c g : ℕ) (p : Pair) (ps : List Pair) → Has v c g (p ∷ ps) → is_pair_of v c p ≡ false → Has v c g ps
 has_tail v c g p ps h off = elim (cases_Bool (of_glyph g p)) as (λ _. Has v c g ps) [
   | inl t ↦
-      sym (ap (λ (qs : List Pair). list_any (is_at v c) qs)
+      sym (ap (λ (qs : List Pair). list_any (is_pair_of v c) qs)
       (cond-true (of_glyph g p) (p ∷ filter (of_glyph g) ps) (filter (of_glyph g) ps) t)
-      ∙ ap (λ b. b || list_any (is_at v c) (filter (of_glyph g) ps)) off) ∙ h
+      ∙ ap (λ b. b || list_any (is_pair_of v c) (filter (of_glyph g) ps)) off) ∙ h
   | inr f ↦
-      sym (ap (λ (qs : List Pair). list_any (is_at v c) qs)
+      sym (ap (λ (qs : List Pair). list_any (is_pair_of v c) qs)
       (cond-false (of_glyph g p) (p ∷ filter (of_glyph g) ps) (filter (of_glyph g) ps) f)) ∙ h
 ]
 
 has_more : (v c g : ℕ) (p : Pair) (ps : List Pair) → Has v c g ps → Has v c g (p ∷ ps)
 has_more v c g p ps h = by_test (of_glyph g p)
   where
-    by_test : (b : Bool) → list_any (is_at v c) (cond b (p ∷ filter (of_glyph g) ps) (filter (of_glyph g) ps)) ≡ true
-    by_test true = ap (λ b. is_at v c p || b) h ∙ or_true (is_at v c p)
+    by_test : (b : Bool) → list_any (is_pair_of v c) (cond b (p ∷ filter (of_glyph g) ps) (filter (of_glyph g) ps)) ≡ true
+    by_test true = ap (λ b. is_pair_of v c p || b) h ∙ or_true (is_pair_of v c p)
       where
         or_true : (b : Bool) → (b || true) ≡ true
         or_true true = refl
         or_true false = refl
     by_test false = h
 
-has_first : (v c : ℕ) (p : Pair) (ps : List Pair) → is_at v c p ≡ true → Has v c p.glyph (p ∷ ps)
+has_first : (v c : ℕ) (p : Pair) (ps : List Pair) → is_pair_of v c p ≡ true → Has v c p.glyph (p ∷ ps)
 has_first v c p ps t =
-    ap (λ (qs : List Pair). list_any (is_at v c) qs)
+    ap (λ (qs : List Pair). list_any (is_pair_of v c) qs)
     (cond-true (of_glyph p.glyph p) (p ∷ filter (of_glyph p.glyph) ps) (filter (of_glyph p.glyph) ps)
     (eq-eqb p.glyph p.glyph refl))
-    ∙ ap (λ b. b || list_any (is_at v c) (filter (of_glyph p.glyph) ps)) t
+    ∙ ap (λ b. b || list_any (is_pair_of v c) (filter (of_glyph p.glyph) ps)) t
 
 module _ (n : ℕ) where
   -- of pairs whose places rise one has a selector and code
   none_later : (v c g low : ℕ) (ps : List Pair) → CODES * v + c < low → Rises (IsPairAmong n) place_of low ps
       → Has v c g ps → ⊥
   none_later v c g low [] h r has = both_ways true (sym has) refl
-  none_later v c g low (p ∷ ps) h r has = elim (cases_Bool (is_at v c p)) [
+  none_later v c g low (p ∷ ps) h r has = elim (cases_Bool (is_pair_of v c p)) [
     | inl t ↦ omega (arith, at_place v c p t, h, r.1)
     | inr f ↦ none_later v c g (suc (place_of p)) ps (omega (arith, h, r.1)) r.2 (has_tail v c g p ps has f)
   ]
 
   first_has : (v c g low : ℕ) (p : Pair) (ps : List Pair) → Rises (IsPairAmong n) place_of low (p ∷ ps)
-      → is_at v c p ≡ true → Has v c g (p ∷ ps) → p.glyph ≡ g
+      → is_pair_of v c p ≡ true → Has v c g (p ∷ ps) → p.glyph ≡ g
   first_has v c g low p ps r t has = elim (cases_Bool (of_glyph g p)) [
     | inl same ↦ eqb-true p.glyph g same
     | inr other ↦
         let later : Has v c g ps =
-        sym (ap (λ (qs : List Pair). list_any (is_at v c) qs)
+        sym (ap (λ (qs : List Pair). list_any (is_pair_of v c) qs)
         (cond-false (of_glyph g p) (p ∷ filter (of_glyph g) ps) (filter (of_glyph g) ps) other)) ∙ has in
         absurd (none_later v c g (suc (place_of p)) ps (omega (arith, at_place v c p t)) r.2 later)
   ]
@@ -87,7 +85,7 @@ module _ (n : ℕ) where
   one_glyph : (v c g h low : ℕ) (ps : List Pair) → Rises (IsPairAmong n) place_of low ps → Has v c g ps
       → Has v c h ps → g ≡ h
   one_glyph v c g h low [] r first second = absurd (both_ways true (sym first) refl)
-  one_glyph v c g h low (p ∷ ps) r first second = elim (cases_Bool (is_at v c p)) [
+  one_glyph v c g h low (p ∷ ps) r first second = elim (cases_Bool (is_pair_of v c p)) [
     | inl t ↦ sym (first_has v c g low p ps r t first) ∙ first_has v c h low p ps r t second
     | inr f ↦
         one_glyph v c g h (suc (place_of p)) ps r.2 (has_tail v c g p ps first f) (has_tail v c h p ps second f)
@@ -95,7 +93,7 @@ module _ (n : ℕ) where
 
   -- two pairs of one place
   same_place : (p q : Pair) → IsPairAmong n p → IsPairAmong n q → place_of p ≡ place_of q
-      → is_at p.selector p.code q ≡ true
+      → is_pair_of p.selector p.code q ≡ true
   unfolding place_of
   same_place p q a b e =
       let selector : q.selector ≡ p.selector = omega (arith, e, a.code, b.code) in
@@ -182,7 +180,7 @@ module _ (n : ℕ) (parts : ℕ → List ℕ) where
 
   has_it : (v c g : ℕ) → g < n → Has v c g (pairs_of_parts n parts) ≡ (has_sequence n parts v c g ≡ true)
   unfolding has_sequence
-  has_it v c g low = ap (λ (ps : List Pair). list_any (is_at v c) ps ≡ true) (by_glyph g low)
+  has_it v c g low = ap (λ (ps : List Pair). list_any (is_pair_of v c) ps ≡ true) (by_glyph g low)
 
   parts_rise : RiseByGlyph n (pairs_of_parts n parts)
   parts_rise g low = subst (AreAmong n) (sym (by_glyph g low)) (at-among n parts g)

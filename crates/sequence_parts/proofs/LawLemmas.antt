@@ -13,13 +13,14 @@ use Rattle.variation_sequences.specs.declared.variant.Pair.{Pair}
 use Rattle.font_theory.specs.Content.{glyph_count}
 use Rattle.font_theory.specs.Parting.{Tables}
 use Rattle.sequence_parts.specs.Laws.{AreOf, FontHasOwnParts, PartsAreTheTable, PartsOfOneTableFit, WholeIsOfItsParts}
-use Rattle.sequence_parts.specs.SequenceTable.{MAX_PAIRS, either_part, first_clash, first_twice, have_room, pairs_in}
+use Rattle.sequence_parts.specs.OrderedPairs.{first_twice}
+use Rattle.sequence_parts.specs.SequenceTable.{MAX_PAIRS, either_part, first_clash, have_room, pairs_in}
 use Rattle.sequence_parts.specs.SequenceTable.{pairs_of_parts, sequences, table_of}
 use Rattle.sequence_parts.proofs.PartLemmas.{few_pairs, fewer_room, no_clash, own_merged, own_room, room_rises}
 use Rattle.sequence_parts.proofs.TableLemmas.{AreAmong, pairs_few, pairs_in-among, pairs_in-table, pairs_rise}
 
 -- the pairs of a font are in order
-abbrev IsStrictIfSome : Option (List ℕ) → Type 0
+abbrev pub IsStrictIfSome : Option (List ℕ) → Type 0
 IsStrictIfSome o = (s : List ℕ) → o ≡ Some s → is_strict s ≡ true
 
 strict_if : (s : List ℕ) → IsStrictIfSome (if_strict s)
@@ -34,7 +35,7 @@ strict_then : (o : Option (List ℕ)) → IsStrictIfSome (option_and_then if_str
 strict_then None s is = absurd (both_ways true (ap is_some (sym is)) refl)
 strict_then (Some b) s is = strict_if b s is
 
-strict_subtable : (cmap : List ℕ) → IsStrictIfSome (subtable_of cmap)
+pub strict_subtable : (cmap : List ℕ) → IsStrictIfSome (subtable_of cmap)
 unfolding subtable_of
 strict_subtable cmap = strict_then (option_and_then (λ k. whole_subtable (from_subtable cmap k)) (sole_record cmap))
 
@@ -50,7 +51,7 @@ font_pairs : (n : ℕ) (of_code : ℕ → ℕ) (cmap : List ℕ) → ((code : �
 unfolding sequence_pairs
 font_pairs n of_code cmap below = pairs_of_some n of_code (subtable_of cmap) below (strict_subtable cmap)
 
-font_read : (n : ℕ) (of_code : ℕ → ℕ) (cmap : List ℕ) → ((code : ℕ) → of_code code < n)
+pub font_read : (n : ℕ) (of_code : ℕ → ℕ) (cmap : List ℕ) → ((code : ℕ) → of_code code < n)
     → pairs_in n (table_of (sequence_pairs cmap of_code n)) ≡ sequence_pairs cmap of_code n
 font_read n of_code cmap below =
     let both = font_pairs n of_code cmap below in

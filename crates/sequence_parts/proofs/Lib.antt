@@ -1,5 +1,6 @@
 pub mod ClashLemmas
 pub mod EntryLemmas
+pub mod GlyphLemmas
 pub mod LawLemmas
 pub mod MergeLemmas
 pub mod OrderLemmas

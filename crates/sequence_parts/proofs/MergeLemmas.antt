@@ -6,7 +6,7 @@ use Rattle.std.specs.Option.{is_some}
 use Rattle.std.proofs.lemmas.Bool.{both_ways, cases_Bool, cases_lt, cond-false, cond-true, cond_both, eqb-false}
 use Rattle.std.proofs.lemmas.Bool.{le-ltb, lt-ltb, ne_eqb}
 use Rattle.variation_sequences.specs.declared.variant.Pair.{Pair}
-use Rattle.sequence_parts.specs.SequenceTable.{first_twice, merged, place_of, with_one}
+use Rattle.sequence_parts.specs.OrderedPairs.{first_twice, merged, place_of, with_one}
 use Rattle.sequence_parts.proofs.OrderLemmas.{Rises, rises_filter, rises_from}
 
 -- one more pair

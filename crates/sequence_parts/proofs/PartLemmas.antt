@@ -10,8 +10,9 @@ use Rattle.variation_sequences.specs.Pairs.{part_of}
 use Rattle.variation_sequences.specs.declared.variant.Pair.{Pair}
 use Rattle.font_theory.specs.Content.{glyph_count}
 use Rattle.font_theory.specs.Parting.{IsPart, IsParting, Tables}
-use Rattle.sequence_parts.specs.SequenceTable.{MAX_PAIRS, first_twice, have_room, merged, pairs_among, pairs_at, pairs_in}
-use Rattle.sequence_parts.specs.SequenceTable.{pairs_of_parts, place_of, sequences, table_of}
+use Rattle.sequence_parts.specs.OrderedPairs.{first_twice, merged, place_of}
+use Rattle.sequence_parts.specs.SequenceTable.{MAX_PAIRS, have_room, pairs_among, pairs_at, pairs_in}
+use Rattle.sequence_parts.specs.SequenceTable.{pairs_of_parts, sequences, table_of}
 use Rattle.sequence_parts.proofs.MergeLemmas.{Sorts, filter-merged, merged-filters, merged-none, once_rises, rises_once}
 use Rattle.sequence_parts.proofs.MergeLemmas.{sorts_merged}
 use Rattle.sequence_parts.proofs.OrderLemmas.{Rises, filter_all, filter_few, filter_none, rises_filter}

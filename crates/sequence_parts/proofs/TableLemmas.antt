@@ -21,7 +21,8 @@ use Rattle.variation_sequences.proofs.CountLemmas.{few_entries}
 use Rattle.variation_sequences.proofs.GroupLemmas.{all_grouped}
 use Rattle.variation_sequences.proofs.ReadBackLemmas.{read_back}
 use Rattle.variation_sequences.proofs.WrittenLemmas.{length-made, size_read}
-use Rattle.sequence_parts.specs.SequenceTable.{MAX_PAIRS, is_read, pairs_in, place_of, table_of}
+use Rattle.sequence_parts.specs.OrderedPairs.{place_of}
+use Rattle.sequence_parts.specs.SequenceTable.{MAX_PAIRS, is_read, pairs_in, table_of}
 use Rattle.sequence_parts.proofs.EntryLemmas.{HasCodes, entries_rise, entry_place}
 use Rattle.sequence_parts.proofs.OrderLemmas.{Rises, filter_map_few, rises_filter_map, rises_from}
 
@@ -67,7 +68,7 @@ pair_by_test n of_code below e has p g which (inr f) is =
     subst (λ q. IsPairAmong n q × (place_of q ≡ entry_place e)) (ap (λ o. unwrap_or o p) same)
     (record { selector = has.0; code = has.1; some = some; low = low }, refl)
 
-pair_kept : (n : ℕ) (of_code : ℕ → ℕ) → MapsBelow n of_code → (e : Entry) → HasCodes e → (p : Pair)
+pub pair_kept : (n : ℕ) (of_code : ℕ → ℕ) → MapsBelow n of_code → (e : Entry) → HasCodes e → (p : Pair)
     → pair_of n (of_code e.code) e ≡ Some p → IsPairAmong n p × (place_of p ≡ entry_place e)
 pair_kept n of_code below e has p is =
     let g = variant_glyph n (of_code e.code) (Some e.variant) in
@@ -94,7 +95,7 @@ in_table n t true strict =
     (pairs_rise n (λ _. 0) (λ c some. absurd (omega (arith, some))) t (strict refl), pairs_few n (λ _. 0) t (strict refl))
 in_table n t false strict = (tt, omega arith)
 
-is_read-strict : (t : List ℕ) → is_read t ≡ true → is_strict t ≡ true
+pub is_read-strict : (t : List ℕ) → is_read t ≡ true → is_strict t ≡ true
 unfolding is_read
 is_read-strict t r = (and_parts _ _ r).1
 

@@ -1,9 +1,11 @@
 -- Laws of variation sequences as a divided table, this project's own, each of them the contract of a function.
 use Rattle.std.specs.Prelude.{◌≡◌, ◌≢◌, ℕ, ◌<◌, ◌⊎◌, false, true, List, [], None, Some}
 use Rattle.variation_sequences.specs.Pairs.{part_of, sequence_pairs}
+use Rattle.variation_sequences.specs.Sequences.{sequence_of, variant_glyph, variant_of}
 use Rattle.font_theory.specs.Content.{glyph_count}
 use Rattle.font_theory.specs.Parting.{IsParting, Tables}
-use Rattle.sequence_parts.specs.SequenceTable.{either_part, first_clash, has_sequence, sequences}
+use Rattle.sequence_parts.specs.OrderedPairs.{glyph_in}
+use Rattle.sequence_parts.specs.SequenceTable.{either_part, first_clash, has_sequence, is_read, pairs_in, sequences}
 use Rattle.sequence_parts.specs.SequenceTable.{sequences_of_font, table_of}
 
 -- variation sequences are divided as is asked, and no table of them is bad
@@ -65,3 +67,16 @@ TwoPartsDoNotFit =
     (t : Tables) (parts : ℕ → List ℕ) (v c g h : ℕ) → g < glyph_count t → h < glyph_count t → g ≢ h
     → has_sequence (glyph_count t) parts v c g ≡ true → has_sequence (glyph_count t) parts v c h ≡ true
     → sequences.fits t [] parts ≡ false
+
+-- a table gives a selector and code what its mappings say, and its default entries nothing
+abbrev pub TableHasItsGlyphs : Type 0
+TableHasItsGlyphs =
+    (n : ℕ) (t : List ℕ) (v c : ℕ) → is_read t ≡ true
+    → glyph_in (pairs_in n t) v c ≡ variant_glyph n 0 (variant_of t v c)
+
+-- the table of a font gives them the glyph that the font gives
+abbrev pub FontHasItsGlyphs : Type 0
+FontHasItsGlyphs =
+    (t : Tables) (cmap : List ℕ) (of_code : ℕ → ℕ) → MapsToGlyphs t of_code → (v c : ℕ)
+    → glyph_in (pairs_in (glyph_count t) (table_among t cmap of_code)) v c
+    ≡ sequence_of cmap of_code (glyph_count t) v c

@@ -1,10 +1,9 @@
 -- Variation sequences as a divided table, this project's own: the pairs of selector and code belong to their glyphs,
 -- and nothing is of no single glyph (OpenType 1.9, cmap, Format 14: Unicode variation sequences).
-use Rattle.std.specs.Prelude.{ℕ, ◌+◌, ◌*◌, nat_eq, nat_le, nat_lt, not, Bool, ◌&&◌, List, [], ◌∷◌, length, is_some}
-use Rattle.std.specs.Prelude.{if◌then◌else◌, None, Option, Some}
+use Rattle.std.specs.Prelude.{ℕ, nat_eq, nat_le, not, Bool, ◌&&◌, List, [], ◌∷◌, length, is_some, if◌then◌else◌}
+use Rattle.std.specs.Prelude.{Option}
 use Rattle.std.specs.List.{filter_map, list_any, range_with_len}
 use Rattle.sfnt_bytes.specs.Number.{u32_at}
-use Rattle.codes.specs.declared.code_points.TheConstants.{CODES}
 use Rattle.variation_sequences.specs.Encoding.{is_whole}
 use Rattle.variation_sequences.specs.Pairs.{pair_of, part_of, sequence_pairs}
 use Rattle.variation_sequences.specs.Sequences.{entries_of}
@@ -13,6 +12,7 @@ use Rattle.variation_sequences.specs.Written.{subtable_bytes}
 use Rattle.variation_sequences.specs.declared.variant.Pair.{Pair}
 use Rattle.font_theory.specs.Content.{glyph_count}
 use Rattle.font_theory.specs.Parting.{Parting}
+use Rattle.sequence_parts.specs.OrderedPairs.{first_twice, is_pair_of, merged}
 
 -- the table of pairs in order: none without a pair
 unfoldable pub table_of : List Pair → List ℕ
@@ -31,20 +31,6 @@ is_read t = is_whole t && nat_eq (u32_at t 2) (length t) && is_strict t
 unfoldable pub pairs_in : ℕ → List ℕ → List Pair
 pairs_in n t = if is_read t then filter_map (pair_of n 0) (entries_of t) else []
 
--- the place of a pair in order of selector and code, which is below CODES
-unfoldable pub place_of : Pair → ℕ
-place_of p = CODES * p.selector + p.code
-
--- pairs in order, and another one at its place
-unfoldable pub with_one : Pair → List Pair → List Pair
-with_one p [] = p ∷ []
-with_one p (q ∷ qs) = if nat_lt (place_of q) (place_of p) then q ∷ with_one p qs else p ∷ q ∷ qs
-
--- pairs in order, and others each at its place
-abbrev pub merged : List Pair → List Pair → List Pair
-merged [] qs = qs
-merged (p ∷ ps) qs = with_one p (merged ps qs)
-
 -- the pairs of a glyph in its part
 abbrev pub pairs_at : ℕ → (ℕ → List ℕ) → ℕ → List Pair
 pairs_at n parts g = part_of (pairs_in n (parts g)) g
@@ -58,13 +44,6 @@ pairs_among n parts (g ∷ gs) = merged (pairs_at n parts g) (pairs_among n part
 unfoldable pub pairs_of_parts : ℕ → (ℕ → List ℕ) → List Pair
 pairs_of_parts n parts = pairs_among n parts (range_with_len 0 n)
 
--- the first selector and code that pairs in order have twice
-unfoldable pub first_twice : List Pair → Option (ℕ × ℕ)
-first_twice [] = None
-first_twice (p ∷ []) = None
-first_twice (p ∷ q ∷ qs) =
-    if nat_eq (place_of p) (place_of q) then Some (p.selector, p.code) else first_twice (q ∷ qs)
-
 -- how many pairs a table has at most, for no longer one is read
 unfoldable pub MAX_PAIRS : ℕ
 MAX_PAIRS = 1048576
@@ -75,7 +54,7 @@ have_room ps = not (is_some (first_twice ps)) && nat_le (length ps) MAX_PAIRS
 
 -- the part of a glyph has this selector and code
 unfoldable pub has_sequence : ℕ → (ℕ → List ℕ) → ℕ → ℕ → ℕ → Bool
-has_sequence n parts v c g = list_any (λ p. nat_eq p.selector v && nat_eq p.code c) (pairs_at n parts g)
+has_sequence n parts v c g = list_any (is_pair_of v c) (pairs_at n parts g)
 
 -- how the table of variation sequences is divided
 unfoldable pub sequences : Parting

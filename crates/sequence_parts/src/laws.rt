@@ -1,5 +1,5 @@
 //! Laws of variation sequences as a divided table: the contract of each function is what it says.
-ghost use Rattle.sequence_parts.specs.Laws.{ClashIsInTwoParts, FontHasOwnParts, PartsAreTheTable, PartsOfOneTableFit, SequencesAreDivided, TwoPartsDoNotFit, WholeIsOfItsParts};
+ghost use Rattle.sequence_parts.specs.Laws.{ClashIsInTwoParts, FontHasItsGlyphs, FontHasOwnParts, PartsAreTheTable, PartsOfOneTableFit, SequencesAreDivided, TableHasItsGlyphs, TwoPartsDoNotFit, WholeIsOfItsParts};
 
 /// Variation sequences are divided by glyph as each divided table is.
 pub fn sequences_are_divided()
@@ -34,4 +34,14 @@ pub fn clash_is_in_two_parts()
 /// Parts of two glyphs that have one selector and code do not fit.
 pub fn two_parts_do_not_fit()
     ensures { TwoPartsDoNotFit }
+{}
+
+/// A table gives a selector and code what its mappings say, and its default entries nothing.
+pub fn table_has_its_glyphs()
+    ensures { TableHasItsGlyphs }
+{}
+
+/// The table of a font gives a selector and code the glyph that the font gives.
+pub fn font_has_its_glyphs()
+    ensures { FontHasItsGlyphs }
 {}
