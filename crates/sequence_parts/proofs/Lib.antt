@@ -1,4 +1,5 @@
 pub mod ClashLemmas
+pub mod CmapLemmas
 pub mod EntryLemmas
 pub mod GlyphLemmas
 pub mod LawLemmas

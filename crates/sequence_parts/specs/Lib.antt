@@ -1,3 +1,4 @@
 pub mod Laws
 pub mod OrderedPairs
+pub mod SequenceCmap
 pub mod SequenceTable

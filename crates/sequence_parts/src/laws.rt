@@ -1,5 +1,6 @@
 //! Laws of variation sequences as a divided table: the contract of each function is what it says.
 ghost use Rattle.sequence_parts.specs.Laws.{ClashIsInTwoParts, FontHasItsGlyphs, FontHasOwnParts, PartsAreTheTable, PartsOfOneTableFit, SequencesAreDivided, TableHasItsGlyphs, TwoPartsDoNotFit, WholeIsOfItsParts};
+ghost use Rattle.sequence_parts.specs.SequenceCmap.{SequencesAreRead, SequencesChangeNoMap};
 
 /// Variation sequences are divided by glyph as each divided table is.
 pub fn sequences_are_divided()
@@ -44,4 +45,14 @@ pub fn table_has_its_glyphs()
 /// The table of a font gives a selector and code the glyph that the font gives.
 pub fn font_has_its_glyphs()
     ensures { FontHasItsGlyphs }
+{}
+
+/// A third encoding record of a `cmap` changes nothing of its map, whatever it leads to.
+pub fn sequences_change_no_map()
+    ensures { SequencesChangeNoMap }
+{}
+
+/// The subtable of sequences that is written into a `cmap` is the one that is read.
+pub fn sequences_are_read()
+    ensures { SequencesAreRead }
 {}

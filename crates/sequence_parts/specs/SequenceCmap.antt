@@ -1,0 +1,40 @@
+-- `cmap` with variation sequences, this project's own: a third encoding record, 0/5, between 0/4 and 3/10 (OpenType
+-- 1.9, cmap, Encoding records and encodings; Format 12: Segmented coverage; Format 14: Unicode variation sequences).
+use Rattle.std.specs.Prelude.{◌≡◌, ℕ, ◌+◌, ◌*◌, ◌≤◌, List, ◌∷◌, ◌++◌, length, None, Some}
+use Rattle.std.specs.List.{flat_map}
+use Rattle.codes.specs.CharacterMap.{clipped}
+use Rattle.codes.specs.Runs.{spelled}
+use Rattle.codes.specs.declared.runs.Run.{Run}
+use Rattle.font_map.specs.Mapping.{mapping_of}
+use Rattle.font_map.specs.Refusals.{map_fault}
+use Rattle.variation_sequences.specs.Encoding.{subtable_of}
+use Rattle.variation_sequences.specs.Written.{AreOrdered, subtable_bytes}
+use Rattle.variation_sequences.specs.declared.variant.Pair.{Pair}
+use Rattle.font_theory.specs.Bytes.{bytes32}
+use Rattle.font_theory.specs.File.{cmap_bytes, current_writing, group_bytes, subtable_front}
+use Rattle.sequence_parts.specs.SequenceTable.{MAX_PAIRS}
+
+-- `cmap` up to its n groups, word by word: version 0 and three records, 0/4 and 3/10 of one subtable right after them,
+-- 0/5 of the bytes right behind its groups
+unfoldable pub sequence_front : ℕ → List ℕ
+sequence_front n =
+    0x00000003 ∷ 0x00000004 ∷ 28 ∷ 0x00000005 ∷ (44 + 12 * n) ∷ 0x0003000A ∷ 28 ∷ subtable_front n
+
+-- `cmap` with the bytes of a table of sequences
+unfoldable pub cmap_with : List Run → List ℕ → List ℕ
+cmap_with runs t = flat_map bytes32 (sequence_front (length runs)) ++ flat_map group_bytes runs ++ t
+
+-- it is accepted and maps by its groups, as a `cmap` without them
+pub record MapsByGroups (runs : List Run) (t : List ℕ) : Type 0 where
+  pub accepted : map_fault (cmap_with runs t) ≡ None
+  pub maps : (glyphs : ℕ) → mapping_of (cmap_with runs t) glyphs ≡ clipped glyphs (spelled runs)
+  pub same : (glyphs : ℕ) → mapping_of (cmap_with runs t) glyphs ≡ mapping_of (cmap_bytes current_writing runs) glyphs
+
+abbrev pub SequencesChangeNoMap : Type 0
+SequencesChangeNoMap = (runs : List Run) (t : List ℕ) → MapsByGroups runs t
+
+-- the subtable of its sequences is the one that was written
+abbrev pub SequencesAreRead : Type 0
+SequencesAreRead =
+    (runs : List Run) (pairs : List Pair) → AreOrdered 0 0 pairs → length pairs ≤ MAX_PAIRS
+    → subtable_of (cmap_with runs (subtable_bytes pairs)) ≡ Some (subtable_bytes pairs)
