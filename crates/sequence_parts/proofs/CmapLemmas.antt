@@ -2,9 +2,9 @@
 use Rattle.std.proofs.Common.{◌≡◌, ℕ, zero, suc, ◌+◌, ◌-◌, ◌*◌, ◌<◌, ◌≤◌, Bool, true, false, cond, is_none, nat_eq, nat_le}
 use Rattle.std.proofs.Common.{nat_lt, ◌&&◌, List, [], ◌∷◌, ◌++◌, drop, find, length, length-append, map, refl, sym, ap, ◌∙◌}
 use Rattle.std.proofs.Common.{arith, Option, Some, None, flat_map}
-use Rattle.std.specs.List.{list_any, range_with_len}
+use Rattle.std.specs.List.{filter_map, range_with_len}
 use Rattle.std.specs.Option.{option_and_then, option_map_or}
-use Rattle.std.proofs.lemmas.Bool.{cond-true, le-leb, le-ltb}
+use Rattle.std.proofs.lemmas.Bool.{cond-false, cond-true, cond_both, le-leb, le-ltb, ne_eqb}
 use Rattle.std.proofs.lemmas.List.{append-nil, drop_at, get_or_append_left}
 use Rattle.sfnt_bytes.specs.Lines.{first_of_lines, when}
 use Rattle.sfnt_bytes.specs.Number.{u16_at, u32_at}
@@ -20,19 +20,24 @@ use Rattle.font_map.specs.declared.mapping.MapError.TheVariants.{BadCmap, NoMapp
 use Rattle.font_map.proofs.MappingLemmas.{mapping_of-chosen}
 use Rattle.variation_sequences.specs.Encoding.{encoding_record_count, from_subtable, has_later_record, if_strict}
 use Rattle.variation_sequences.specs.Encoding.{is_sequence_record, sole_record, subtable_of, whole_subtable}
+use Rattle.variation_sequences.specs.Pairs.{pair_of, sequence_pairs}
+use Rattle.variation_sequences.specs.Sequences.{entries_of}
 use Rattle.variation_sequences.specs.Strict.{is_strict}
 use Rattle.variation_sequences.proofs.ReadBackLemmas.{read_back}
 use Rattle.variation_sequences.specs.Written as Written
 use Rattle.variation_sequences.specs.declared.variant.Pair.{Pair}
 use Rattle.font_variations.proofs.NumberLemmas.{u32_at-front}
 use Rattle.font_theory.specs.Bytes.{bytes32}
-use Rattle.font_theory.specs.File.{IsWriting, cmap_bytes, current_writing, group_bytes, subtable_front, writing_of}
+use Rattle.font_theory.specs.Content.{glyph_count}
+use Rattle.font_theory.specs.File.{cmap_bytes, cmap_front, current_writing, group_bytes, second_writing, writing_of}
 use Rattle.font_theory.specs.declared.Profile.TheVariants.{Second}
 use Rattle.font_theory.proofs.CmapLemmas.{IsWriting-writing_of, is_malformed-subtable_bytes, length-groups_bytes}
 use Rattle.font_theory.proofs.CmapLemmas.{length-subtable_bytes, listed_glyph-subtable_bytes, subtable_bytes}
-use Rattle.sequence_parts.specs.SequenceCmap.{MapsByGroups, SequencesAreRead, SequencesChangeNoMap, cmap_with}
-use Rattle.sequence_parts.specs.SequenceCmap.{sequence_front}
-use Rattle.sequence_parts.specs.SequenceTable.{MAX_PAIRS}
+use Rattle.sequence_parts.specs.SequenceCmap.{SequencesAreRead, SequencesChangeNoMap, TableIsReadBack, cmap_of}
+use Rattle.sequence_parts.specs.SequenceCmap.{cmap_with, sequence_front}
+use Rattle.sequence_parts.specs.SequenceTable.{MAX_PAIRS, pairs_of_parts, sequences, table_of}
+use Rattle.sequence_parts.proofs.PartLemmas.{few_pairs, room_rises}
+use Rattle.sequence_parts.proofs.TableLemmas.{AreAmong, ordered, pairs_back}
 
 -- the third record is chosen
 chosen-third : (runs : List Run) (t : List ℕ) → chosen_record (cmap_with runs t) ≡ Some 2
@@ -122,12 +127,23 @@ maps_with runs t glyphs =
     (sym (subtable-third runs t)))
     ∙ ap (clipped glyphs) (λ i c. (listed_same runs t c ∙ listed_glyph-subtable_bytes runs c) i)
 
+-- as without sequences
+is_cmap : (P : List ℕ → Type 0) (runs : List Run) (t : List ℕ) → P (cmap_bytes current_writing runs)
+    → P (cmap_with runs t) → P (cmap_of runs t)
+unfolding cmap_of
+is_cmap P runs t a b =
+    cond_both (nat_eq (length t) 0) (cmap_bytes current_writing runs) (cmap_with runs t) P (λ e. a) (λ e. b)
+
 pub no_map_changed : SequencesChangeNoMap
-no_map_changed runs t = record {
-  accepted = accepted_with runs t;
-  maps = maps_with runs t;
-  same = λ glyphs. maps_with runs t glyphs ∙ sym ((IsWriting-writing_of Second).maps runs glyphs);
-}
+no_map_changed runs t =
+    let plain = IsWriting-writing_of Second in
+    let maps = is_cmap (λ b. (glyphs : ℕ) → mapping_of b glyphs ≡ clipped glyphs (spelled runs)) runs t
+    (plain.maps runs) (maps_with runs t) in
+    record {
+      accepted = is_cmap (λ b. map_fault b ≡ None) runs t (plain.accepted runs) (accepted_with runs t);
+      maps = maps;
+      same = λ glyphs. maps glyphs ∙ sym (plain.maps runs glyphs);
+    }
 
 -- the second record alone is of sequences
 later-none : (runs : List Run) (t : List ℕ) → has_later_record (cmap_with runs t) 1 ≡ false
@@ -182,3 +198,48 @@ sequences_read runs pairs order few =
     ∙ ap (λ (x : List ℕ). option_and_then if_strict (whole_subtable x)) (from-second runs t)
     ∙ ap (option_and_then if_strict) whole
     ∙ cond-true (is_strict t) (Some t) None back.strict
+
+-- without sequences there is no such record
+none-plain : (runs : List Run) → sole_record (cmap_bytes current_writing runs) ≡ None
+unfolding sole_record encoding_record_count is_sequence_record u16_at cmap_bytes cmap_front writing_of second_writing
+none-plain runs =
+    let b = cmap_bytes current_writing runs in
+    let first : nat_lt (length b) 4 ≡ false = le-ltb _ _ (omega arith) in
+    let second : nat_le 12 (length b) ≡ true = le-leb _ _ (omega arith) in
+    let third : nat_le 20 (length b) ≡ true = le-leb _ _ (omega arith) in
+    rw (first, second, third) refl
+
+subtable-plain : (runs : List Run) → subtable_of (cmap_bytes current_writing runs) ≡ None
+unfolding subtable_of
+subtable-plain runs =
+    let b = cmap_bytes current_writing runs in
+    ap (λ o. option_and_then if_strict (option_and_then (λ k. whole_subtable (from_subtable b k)) o)) (none-plain runs)
+
+-- a table of pairs is that of a font with its `cmap`
+some_bytes : (pairs : List Pair) → nat_eq (length (Written.subtable_bytes pairs)) 0 ≡ false
+unfolding Written.subtable_bytes
+some_bytes pairs = ne_eqb (length (Written.subtable_bytes pairs)) 0 (λ e. omega (arith, e))
+
+pairs_of_cmap : (n : ℕ) (of_code : ℕ → ℕ) (runs : List Run) (pairs : List Pair) → AreAmong n pairs
+    → length pairs ≤ MAX_PAIRS → sequence_pairs (cmap_of runs (table_of pairs)) of_code n ≡ pairs
+unfolding sequence_pairs table_of cmap_of MAX_PAIRS
+pairs_of_cmap n of_code runs [] r few =
+    ap (λ o. option_map_or (λ s. filter_map (λ e. pair_of n (of_code e.code) e) (entries_of s)) o [])
+    (subtable-plain runs)
+pairs_of_cmap n of_code runs (p ∷ ps) r few =
+    let pairs : List Pair = p ∷ ps in
+    let t : List ℕ = Written.subtable_bytes pairs in
+    let order = ordered n 0 0 pairs (omega arith) r in
+    let kept = λ (s : List ℕ). filter_map (λ e. pair_of n (of_code e.code) e) (entries_of s) in
+    ap (λ (b : List ℕ). option_map_or kept (subtable_of b) [])
+    (cond-false (nat_eq (length t) 0) (cmap_bytes current_writing runs) (cmap_with runs t) (some_bytes pairs))
+    ∙ ap (λ o. option_map_or kept o []) (sequences_read runs pairs order few)
+    ∙ ap (filter_map (λ e. pair_of n (of_code e.code) e)) (read_back pairs order few).entries
+    ∙ pairs_back n of_code 0 pairs r
+
+pub table_read_back : TableIsReadBack
+unfolding sequences
+table_read_back c parts runs of_code fit =
+    let n = glyph_count c in
+    let ps = pairs_of_parts n parts in
+    ap table_of (pairs_of_cmap n of_code runs ps (room_rises n parts fit) (few_pairs ps fit))

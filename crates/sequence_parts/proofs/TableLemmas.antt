@@ -104,7 +104,7 @@ unfolding pairs_in
 pairs_in-among n t = in_table n t (is_read t) (is_read-strict t)
 
 -- pairs that are written are in order
-ordered : (n v c : ℕ) (ps : List Pair) → c ≤ CODES → Rises (IsPairAmong n) place_of (CODES * v + c) ps
+pub ordered : (n v c : ℕ) (ps : List Pair) → c ≤ CODES → Rises (IsPairAmong n) place_of (CODES * v + c) ps
     → AreOrdered v c ps
 unfolding place_of
 ordered n v c [] h r = tt
@@ -123,19 +123,21 @@ ordered n v c (p ∷ ps) h r =
           inr (same, omega (arith, same, place))
     ]
 
--- a table of pairs is read back
-pair_back : (n : ℕ) (p : Pair) → IsPairAmong n p → pair_of n 0 (entry_of p) ≡ Some p
-pair_back n p is =
-    let glyph : cond (ltb p.glyph n) p.glyph 0 ≡ p.glyph = cond-true (ltb p.glyph n) p.glyph 0 (lt-ltb p.glyph n is.low) in
+-- a table of pairs is read back, whatever codes map to
+pair_back : (n of_code : ℕ) (p : Pair) → IsPairAmong n p → pair_of n of_code (entry_of p) ≡ Some p
+pair_back n of_code p is =
+    let glyph : cond (ltb p.glyph n) p.glyph 0 ≡ p.glyph =
+    cond-true (ltb p.glyph n) p.glyph 0 (lt-ltb p.glyph n is.low) in
     ap (λ (g : ℕ). cond (eqb g 0) None (Some (record { selector = p.selector; code = p.code; glyph = g }))) glyph
     ∙ cond-false (eqb p.glyph 0) None (Some p) (ne_eqb p.glyph 0 (λ e. omega (arith, e, is.some)))
 
-pairs_back : (n low : ℕ) (ps : List Pair) → Rises (IsPairAmong n) place_of low ps
-    → filter_map (pair_of n 0) (map entry_of ps) ≡ ps
-pairs_back n low [] r = refl
-pairs_back n low (p ∷ ps) r =
-    ap (λ o. cons_option o (filter_map (pair_of n 0) (map entry_of ps))) (pair_back n p r.0)
-    ∙ ap (λ (qs : List Pair). p ∷ qs) (pairs_back n (suc (place_of p)) ps r.2)
+pub pairs_back : (n : ℕ) (of_code : ℕ → ℕ) (low : ℕ) (ps : List Pair) → Rises (IsPairAmong n) place_of low ps
+    → filter_map (λ e. pair_of n (of_code e.code) e) (map entry_of ps) ≡ ps
+pairs_back n of_code low [] r = refl
+pairs_back n of_code low (p ∷ ps) r =
+    ap (λ o. cons_option o (filter_map (λ e. pair_of n (of_code e.code) e) (map entry_of ps)))
+    (pair_back n (of_code p.code) p r.0)
+    ∙ ap (λ (qs : List Pair). p ∷ qs) (pairs_back n of_code (suc (place_of p)) ps r.2)
 
 whole_is : (b : List ℕ) → whole_subtable b ≡ Some b → is_whole b ≡ true
 unfolding whole_subtable
@@ -158,7 +160,7 @@ unfolding pairs_in MAX_PAIRS
 read_written n ps r few =
     let back = read_back ps (ordered n 0 0 ps (omega arith) r) few in
     cond-true (is_read (subtable_bytes ps)) _ [] (is_read-written n ps r few)
-    ∙ ap (filter_map (pair_of n 0)) back.entries ∙ pairs_back n 0 ps r
+    ∙ ap (filter_map (pair_of n 0)) back.entries ∙ pairs_back n (λ _. 0) 0 ps r
 
 pub pairs_in-none : (n : ℕ) → pairs_in n [] ≡ []
 unfolding pairs_in is_read

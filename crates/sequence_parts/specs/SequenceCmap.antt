@@ -1,6 +1,7 @@
 -- `cmap` with variation sequences, this project's own: a third encoding record, 0/5, between 0/4 and 3/10 (OpenType
 -- 1.9, cmap, Encoding records and encodings; Format 12: Segmented coverage; Format 14: Unicode variation sequences).
-use Rattle.std.specs.Prelude.{◌≡◌, ℕ, ◌+◌, ◌*◌, ◌≤◌, List, ◌∷◌, ◌++◌, length, None, Some}
+use Rattle.std.specs.Prelude.{◌≡◌, ℕ, ◌+◌, ◌*◌, ◌≤◌, nat_eq, true, List, [], ◌∷◌, ◌++◌, length}
+use Rattle.std.specs.Prelude.{if◌then◌else◌, None, Some}
 use Rattle.std.specs.List.{flat_map}
 use Rattle.codes.specs.CharacterMap.{clipped}
 use Rattle.codes.specs.Runs.{spelled}
@@ -11,8 +12,10 @@ use Rattle.variation_sequences.specs.Encoding.{subtable_of}
 use Rattle.variation_sequences.specs.Written.{AreOrdered, subtable_bytes}
 use Rattle.variation_sequences.specs.declared.variant.Pair.{Pair}
 use Rattle.font_theory.specs.Bytes.{bytes32}
+use Rattle.font_theory.specs.Content.{glyph_count}
 use Rattle.font_theory.specs.File.{cmap_bytes, current_writing, group_bytes, subtable_front}
-use Rattle.sequence_parts.specs.SequenceTable.{MAX_PAIRS}
+use Rattle.font_theory.specs.Parting.{Tables}
+use Rattle.sequence_parts.specs.SequenceTable.{MAX_PAIRS, sequences, sequences_of_font}
 
 -- `cmap` up to its n groups, word by word: version 0 and three records, 0/4 and 3/10 of one subtable right after them,
 -- 0/5 of the bytes right behind its groups
@@ -24,11 +27,16 @@ sequence_front n =
 unfoldable pub cmap_with : List Run → List ℕ → List ℕ
 cmap_with runs t = flat_map bytes32 (sequence_front (length runs)) ++ flat_map group_bytes runs ++ t
 
--- it is accepted and maps by its groups, as a `cmap` without them
+-- `cmap` with a table of sequences: without one that of today
+unfoldable pub cmap_of : List Run → List ℕ → List ℕ
+cmap_of runs t = if nat_eq (length t) 0 then cmap_bytes current_writing runs else cmap_with runs t
+
+-- it is accepted and maps by its groups, as a `cmap` without sequences
 pub record MapsByGroups (runs : List Run) (t : List ℕ) : Type 0 where
-  pub accepted : map_fault (cmap_with runs t) ≡ None
-  pub maps : (glyphs : ℕ) → mapping_of (cmap_with runs t) glyphs ≡ clipped glyphs (spelled runs)
-  pub same : (glyphs : ℕ) → mapping_of (cmap_with runs t) glyphs ≡ mapping_of (cmap_bytes current_writing runs) glyphs
+  pub accepted : map_fault (cmap_of runs t) ≡ None
+  pub maps : (glyphs : ℕ) → mapping_of (cmap_of runs t) glyphs ≡ clipped glyphs (spelled runs)
+  pub same :
+      (glyphs : ℕ) → mapping_of (cmap_of runs t) glyphs ≡ mapping_of (cmap_bytes current_writing runs) glyphs
 
 abbrev pub SequencesChangeNoMap : Type 0
 SequencesChangeNoMap = (runs : List Run) (t : List ℕ) → MapsByGroups runs t
@@ -38,3 +46,10 @@ abbrev pub SequencesAreRead : Type 0
 SequencesAreRead =
     (runs : List Run) (pairs : List Pair) → AreOrdered 0 0 pairs → length pairs ≤ MAX_PAIRS
     → subtable_of (cmap_with runs (subtable_bytes pairs)) ≡ Some (subtable_bytes pairs)
+
+-- the table of parts that fit is that of a font with this `cmap`
+abbrev pub TableIsReadBack : Type 0
+TableIsReadBack =
+    (c : Tables) (parts : ℕ → List ℕ) (runs : List Run) (of_code : ℕ → ℕ) → sequences.fits c [] parts ≡ true
+    → sequences_of_font (cmap_of runs (sequences.whole c [] parts)) of_code (glyph_count c)
+    ≡ sequences.whole c [] parts

@@ -1,6 +1,6 @@
 //! Laws of variation sequences as a divided table: the contract of each function is what it says.
 ghost use Rattle.sequence_parts.specs.Laws.{ClashIsInTwoParts, FontHasItsGlyphs, FontHasOwnParts, PartsAreTheTable, PartsOfOneTableFit, SequencesAreDivided, TableHasItsGlyphs, TwoPartsDoNotFit, WholeIsOfItsParts};
-ghost use Rattle.sequence_parts.specs.SequenceCmap.{SequencesAreRead, SequencesChangeNoMap};
+ghost use Rattle.sequence_parts.specs.SequenceCmap.{SequencesAreRead, SequencesChangeNoMap, TableIsReadBack};
 
 /// Variation sequences are divided by glyph as each divided table is.
 pub fn sequences_are_divided()
@@ -55,4 +55,9 @@ pub fn sequences_change_no_map()
 /// The subtable of sequences that is written into a `cmap` is the one that is read.
 pub fn sequences_are_read()
     ensures { SequencesAreRead }
+{}
+
+/// The table of parts that fit is that of a font with the `cmap` that it is written into.
+pub fn table_is_read_back()
+    ensures { TableIsReadBack }
 {}
