@@ -13,7 +13,8 @@ use Rattle.codes.specs.Runs.{spelled}
 use Rattle.codes.specs.declared.runs.Run.{Run}
 use Rattle.cmap_subtables.specs.Format12.{glyph_along, group_count, group_glyph, group_in, groups_of, holds}
 use Rattle.cmap_subtables.specs.declared.format12.ListedGroup.{ListedGroup}
-use Rattle.font_map.specs.Cmap.{candidate_of, chosen_record, encoding_count, is_candidate, is_malformed, subtable_at}
+use Rattle.font_map.specs.Cmap.{candidate_of, chosen_of, chosen_record, encoding_count, is_candidate, is_malformed}
+use Rattle.font_map.specs.Cmap.{subtable_at}
 use Rattle.font_map.specs.Mapping.{listed_glyph, mapping_of}
 use Rattle.font_map.specs.Refusals.{map_fault}
 use Rattle.font_map.specs.declared.mapping.MapError.TheVariants.{BadCmap, NoMapping}
@@ -33,8 +34,8 @@ use Rattle.font_theory.specs.File.{cmap_bytes, cmap_front, current_writing, grou
 use Rattle.font_theory.specs.declared.Profile.TheVariants.{Second}
 use Rattle.font_theory.proofs.CmapLemmas.{IsWriting-writing_of, is_malformed-subtable_bytes, length-groups_bytes}
 use Rattle.font_theory.proofs.CmapLemmas.{length-subtable_bytes, listed_glyph-subtable_bytes, subtable_bytes}
-use Rattle.sequence_parts.specs.SequenceCmap.{SequencesAreRead, SequencesChangeNoMap, TableIsReadBack, cmap_of}
-use Rattle.sequence_parts.specs.SequenceCmap.{cmap_with, sequence_front}
+use Rattle.sequence_parts.specs.SequenceCmap.{SequencesAreRead, SequencesChangeNoMap, TableIsReadBack, ThirdIsChosen}
+use Rattle.sequence_parts.specs.SequenceCmap.{cmap_of, cmap_with, sequence_front}
 use Rattle.sequence_parts.specs.SequenceTable.{MAX_PAIRS, pairs_of_parts, sequences, table_of}
 use Rattle.sequence_parts.proofs.PartLemmas.{few_pairs, room_rises}
 use Rattle.sequence_parts.proofs.TableLemmas.{AreAmong, ordered, pairs_back}
@@ -54,6 +55,13 @@ chosen-third runs t =
 subtable-third : (runs : List Run) (t : List ℕ) → subtable_at (cmap_with runs t) 2 ≡ subtable_bytes runs ++ t
 unfolding subtable_at u32_at cmap_with sequence_front subtable_bytes
 subtable-third runs t = refl
+
+pub third_chosen : ThirdIsChosen
+unfolding chosen_of subtable_at u16_at u32_at cmap_with sequence_front
+third_chosen runs t =
+    let b = cmap_with runs t in
+    ap (λ o. option_map_or (λ k. (u16_at b (4 + 8 * k), u16_at b (6 + 8 * k), u16_at (subtable_at b k) 0)) o (0, 0, 0))
+    (chosen-third runs t)
 
 -- bytes after a subtable of groups change nothing that is read of it
 module _ (runs : List Run) (t : List ℕ) where

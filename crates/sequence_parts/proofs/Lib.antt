@@ -7,3 +7,4 @@ pub mod MergeLemmas
 pub mod OrderLemmas
 pub mod PartLemmas
 pub mod TableLemmas
+pub mod WorkedLemmas

@@ -1,6 +1,7 @@
 //! Laws of variation sequences as a divided table: the contract of each function is what it says.
 ghost use Rattle.sequence_parts.specs.Laws.{ClashIsInTwoParts, FontHasItsGlyphs, FontHasOwnParts, PartsAreTheTable, PartsOfOneTableFit, SequencesAreDivided, TableHasItsGlyphs, TwoPartsDoNotFit, WholeIsOfItsParts};
-ghost use Rattle.sequence_parts.specs.SequenceCmap.{SequencesAreRead, SequencesChangeNoMap, TableIsReadBack};
+ghost use Rattle.sequence_parts.specs.SequenceCmap.{SequencesAreRead, SequencesChangeNoMap, TableIsReadBack, ThirdIsChosen};
+ghost use Rattle.sequence_parts.specs.WorkedParts.{WorkedPartsAre};
 
 /// Variation sequences are divided by glyph as each divided table is.
 pub fn sequences_are_divided()
@@ -60,4 +61,14 @@ pub fn sequences_are_read()
 /// The table of parts that fit is that of a font with the `cmap` that it is written into.
 pub fn table_is_read_back()
     ensures { TableIsReadBack }
+{}
+
+/// With sequences the map is that of the third record, 3/10, of format 12.
+pub fn third_is_chosen()
+    ensures { ThirdIsChosen }
+{}
+
+/// What the parts of two glyphs come to, with one selector and code and with two codes.
+pub fn worked_parts()
+    ensures { WorkedPartsAre }
 {}
