@@ -59,9 +59,11 @@ subtable-third runs t = refl
 pub third_chosen : ThirdIsChosen
 unfolding chosen_of subtable_at u16_at u32_at cmap_with sequence_front
 third_chosen runs t =
-    let b = cmap_with runs t in
-    ap (λ o. option_map_or (λ k. (u16_at b (4 + 8 * k), u16_at b (6 + 8 * k), u16_at (subtable_at b k) 0)) o (0, 0, 0))
-    (chosen-third runs t)
+    let b = cmap_with runs t in (
+      ap (λ o. option_map_or (λ k. (u16_at b (4 + 8 * k), u16_at b (6 + 8 * k), u16_at (subtable_at b k) 0)) o
+          (0, 0, 0)) (chosen-third runs t),
+      refl,
+    )
 
 -- bytes after a subtable of groups change nothing that is read of it
 module _ (runs : List Run) (t : List ℕ) where

@@ -6,7 +6,7 @@ use Rattle.std.specs.List.{flat_map}
 use Rattle.codes.specs.CharacterMap.{clipped}
 use Rattle.codes.specs.Runs.{spelled}
 use Rattle.codes.specs.declared.runs.Run.{Run}
-use Rattle.font_map.specs.Cmap.{chosen_of}
+use Rattle.font_map.specs.Cmap.{chosen_of, subtable_at}
 use Rattle.font_map.specs.Mapping.{mapping_of}
 use Rattle.font_map.specs.Refusals.{map_fault}
 use Rattle.variation_sequences.specs.Encoding.{subtable_of}
@@ -32,9 +32,11 @@ cmap_with runs t = flat_map bytes32 (sequence_front (length runs)) ++ flat_map g
 unfoldable pub cmap_of : List Run → List ℕ → List ℕ
 cmap_of runs t = if nat_eq (length t) 0 then cmap_bytes current_writing runs else cmap_with runs t
 
--- the third record is chosen, of format 12, as long as there are sequences
+-- with sequences the third record is chosen, of format 12, and the first leads to the same subtable
 abbrev pub ThirdIsChosen : Type 0
-ThirdIsChosen = (runs : List Run) (t : List ℕ) → chosen_of (cmap_with runs t) ≡ (3, 10, 12)
+ThirdIsChosen =
+    (runs : List Run) (t : List ℕ) →
+    (chosen_of (cmap_with runs t) ≡ (3, 10, 12)) × (subtable_at (cmap_with runs t) 0 ≡ subtable_at (cmap_with runs t) 2)
 
 -- it is accepted and maps by its groups, as a `cmap` without sequences
 pub record MapsByGroups (runs : List Run) (t : List ℕ) : Type 0 where

@@ -63,7 +63,7 @@ pub fn table_is_read_back()
     ensures { TableIsReadBack }
 {}
 
-/// With sequences the map is that of the third record, 3/10, of format 12.
+/// With sequences the map is that of the third record, 3/10, of format 12, whose subtable is that of the first.
 pub fn third_is_chosen()
     ensures { ThirdIsChosen }
 {}
