@@ -1,9 +1,9 @@
 -- Parts do not fit exactly if two of them have one selector and code, or there are too many pairs.
-use Rattle.std.proofs.Common.{◌≡◌, ◌≢◌, ℕ, suc, ◌+◌, ◌*◌, ◌<◌, ◌≤◌, Bool, true, false, cond, eqb, ◌&&◌, ◌||◌, List, []}
-use Rattle.std.proofs.Common.{◌∷◌, Option, None, Some, refl, ap, subst, sym, ◌∙◌, arith, inl, inr}
+use Rattle.std.proofs.Common.{◌≡◌, ◌≢◌, ℕ, suc, ◌+◌, ◌*◌, ◌<◌, Bool, true, false, cond, eqb, ◌||◌, List, []}
+use Rattle.std.proofs.Common.{◌∷◌, Some, refl, ap, subst, sym, ◌∙◌, arith, inl, inr}
 use Rattle.std.specs.List.{filter, list_any, range_with_len}
 use Rattle.std.specs.Option.{is_some, unwrap_or}
-use Rattle.std.proofs.lemmas.Bool.{and_from, both_ways, cases_Bool, cases_eq, cond-false, cond-true, eq-eqb, eqb-false}
+use Rattle.std.proofs.lemmas.Bool.{and_from, both_ways, cases_Bool, cond-false, cond-true, eq-eqb}
 use Rattle.std.proofs.lemmas.Bool.{eqb-true, and_parts}
 use Rattle.codes.specs.declared.code_points.TheConstants.{CODES}
 use Rattle.variation_sequences.specs.declared.variant.Pair.{Pair}
@@ -46,7 +46,8 @@ has_tail v c g p ps h off = elim (cases_Bool (of_glyph g p)) as (λ _. Has v c g
 has_more : (v c g : ℕ) (p : Pair) (ps : List Pair) → Has v c g ps → Has v c g (p ∷ ps)
 has_more v c g p ps h = by_test (of_glyph g p)
   where
-    by_test : (b : Bool) → list_any (is_pair_of v c) (cond b (p ∷ filter (of_glyph g) ps) (filter (of_glyph g) ps)) ≡ true
+    by_test : (b : Bool)
+        → list_any (is_pair_of v c) (cond b (p ∷ filter (of_glyph g) ps) (filter (of_glyph g) ps)) ≡ true
     by_test true = ap (λ b. is_pair_of v c p || b) h ∙ or_true (is_pair_of v c p)
       where
         or_true : (b : Bool) → (b || true) ≡ true

@@ -1,11 +1,11 @@
 -- The `cmap` with variation sequences is read as what was written.
-use Rattle.std.proofs.Common.{◌≡◌, ℕ, zero, suc, ◌+◌, ◌-◌, ◌*◌, ◌<◌, ◌≤◌, Bool, true, false, cond, is_none, nat_eq, nat_le}
-use Rattle.std.proofs.Common.{nat_lt, ◌&&◌, List, [], ◌∷◌, ◌++◌, drop, find, length, length-append, map, refl, sym, ap, ◌∙◌}
-use Rattle.std.proofs.Common.{arith, Option, Some, None, flat_map}
+use Rattle.std.proofs.Common.{◌≡◌, ℕ, zero, suc, ◌+◌, ◌*◌, ◌≤◌, Bool, true, false, cond, is_none, nat_eq, nat_le}
+use Rattle.std.proofs.Common.{nat_lt, List, [], ◌∷◌, ◌++◌, drop, find, length, length-append, map, refl, sym, ap, ◌∙◌}
+use Rattle.std.proofs.Common.{arith, Some, None, flat_map}
 use Rattle.std.specs.List.{filter_map, range_with_len}
 use Rattle.std.specs.Option.{option_and_then, option_map_or}
 use Rattle.std.proofs.lemmas.Bool.{cond-false, cond-true, cond_both, le-leb, le-ltb, ne_eqb}
-use Rattle.std.proofs.lemmas.List.{append-nil, drop_at, get_or_append_left}
+use Rattle.std.proofs.lemmas.List.{append-nil, drop_at}
 use Rattle.sfnt_bytes.specs.Lines.{first_of_lines, when}
 use Rattle.sfnt_bytes.specs.Number.{u16_at, u32_at}
 use Rattle.codes.specs.CharacterMap.{clipped}
@@ -32,19 +32,19 @@ use Rattle.font_theory.specs.Bytes.{bytes32}
 use Rattle.font_theory.specs.Content.{glyph_count}
 use Rattle.font_theory.specs.File.{cmap_bytes, cmap_front, current_writing, group_bytes, second_writing, writing_of}
 use Rattle.font_theory.specs.declared.Profile.TheVariants.{Second}
-use Rattle.font_theory.proofs.CmapLemmas.{IsWriting-writing_of, is_malformed-subtable_bytes, length-groups_bytes}
+use Rattle.font_theory.proofs.CmapLemmas.{IsWriting-writing_of, length-groups_bytes}
 use Rattle.font_theory.proofs.CmapLemmas.{length-subtable_bytes, listed_glyph-subtable_bytes, subtable_bytes}
 use Rattle.sequence_parts.specs.SequenceCmap.{SequencesAreRead, SequencesChangeNoMap, TableIsReadBack, ThirdIsChosen}
-use Rattle.sequence_parts.specs.SequenceCmap.{cmap_of, cmap_with, sequence_front}
-use Rattle.sequence_parts.specs.SequenceTable.{MAX_PAIRS, pairs_of_parts, sequences, table_of}
+use Rattle.sequence_parts.specs.SequenceCmap.{cmap_with_sequences, cmap_of_three, sequence_front}
+use Rattle.sequence_parts.specs.SequenceTable.{MAX_PAIRS, pairs_of_parts, sequences, sequence_table}
 use Rattle.sequence_parts.proofs.PartLemmas.{few_pairs, room_rises}
 use Rattle.sequence_parts.proofs.TableLemmas.{AreAmong, ordered, pairs_back}
 
 -- the third record is chosen
-chosen-third : (runs : List Run) (t : List ℕ) → chosen_record (cmap_with runs t) ≡ Some 2
-unfolding chosen_record candidate_of encoding_count is_candidate subtable_at u16_at u32_at cmap_with sequence_front
+chosen-third : (runs : List Run) (t : List ℕ) → chosen_record (cmap_of_three runs t) ≡ Some 2
+unfolding chosen_record candidate_of encoding_count is_candidate subtable_at u16_at u32_at cmap_of_three sequence_front
 chosen-third runs t =
-    let b = cmap_with runs t in
+    let b = cmap_of_three runs t in
     let first : nat_lt (length b) 4 ≡ false = le-ltb _ _ (omega arith) in
     let second : nat_le 12 (length b) ≡ true = le-leb _ _ (omega arith) in
     let third : nat_le 20 (length b) ≡ true = le-leb _ _ (omega arith) in
@@ -52,14 +52,14 @@ chosen-third runs t =
     let fifth : nat_le 2 (length (drop 28 b)) ≡ true = le-leb _ _ (omega arith) in
     rw (first, second, third, fourth, fifth) refl
 
-subtable-third : (runs : List Run) (t : List ℕ) → subtable_at (cmap_with runs t) 2 ≡ subtable_bytes runs ++ t
-unfolding subtable_at u32_at cmap_with sequence_front subtable_bytes
+subtable-third : (runs : List Run) (t : List ℕ) → subtable_at (cmap_of_three runs t) 2 ≡ subtable_bytes runs ++ t
+unfolding subtable_at u32_at cmap_of_three sequence_front subtable_bytes
 subtable-third runs t = refl
 
 pub third_chosen : ThirdIsChosen
-unfolding chosen_of subtable_at u16_at u32_at cmap_with sequence_front
+unfolding chosen_of subtable_at u16_at u32_at cmap_of_three sequence_front
 third_chosen runs t =
-    let b = cmap_with runs t in (
+    let b = cmap_of_three runs t in (
       ap (λ o. option_map_or (λ k. (u16_at b (4 + 8 * k), u16_at b (6 + 8 * k), u16_at (subtable_at b k) 0)) o
           (0, 0, 0)) (chosen-third runs t),
       refl,
@@ -121,28 +121,28 @@ module _ (runs : List Run) (t : List ℕ) where
       let format = not_4 in rw (first, second, format) refl
 
 -- so it is accepted, and maps by its groups
-accepted_with : (runs : List Run) (t : List ℕ) → map_fault (cmap_with runs t) ≡ None
+accepted_with : (runs : List Run) (t : List ℕ) → map_fault (cmap_of_three runs t) ≡ None
 unfolding map_fault
 accepted_with runs t =
-    let b = cmap_with runs t in
+    let b = cmap_of_three runs t in
     let well : is_malformed (subtable_at b 2) ≡ false = ap is_malformed (subtable-third runs t) ∙ fine runs t in
     (λ i. first_of_lines (when (is_none (chosen-third runs t i)) NoMapping
     ∷ when (option_map_or (λ j. is_malformed (subtable_at b j)) (chosen-third runs t i) false) BadCmap ∷ []))
     ∙ ap (λ (x : Bool). first_of_lines (None ∷ when x BadCmap ∷ [])) well
 
 maps_with : (runs : List Run) (t : List ℕ) (glyphs : ℕ)
-    → mapping_of (cmap_with runs t) glyphs ≡ clipped glyphs (spelled runs)
+    → mapping_of (cmap_of_three runs t) glyphs ≡ clipped glyphs (spelled runs)
 maps_with runs t glyphs =
-    sym (mapping_of-chosen (cmap_with runs t) (subtable_bytes runs ++ t) glyphs 2 (chosen-third runs t)
+    sym (mapping_of-chosen (cmap_of_three runs t) (subtable_bytes runs ++ t) glyphs 2 (chosen-third runs t)
     (sym (subtable-third runs t)))
     ∙ ap (clipped glyphs) (λ i c. (listed_same runs t c ∙ listed_glyph-subtable_bytes runs c) i)
 
 -- as without sequences
 is_cmap : (P : List ℕ → Type 0) (runs : List Run) (t : List ℕ) → P (cmap_bytes current_writing runs)
-    → P (cmap_with runs t) → P (cmap_of runs t)
-unfolding cmap_of
+    → P (cmap_of_three runs t) → P (cmap_with_sequences runs t)
+unfolding cmap_with_sequences
 is_cmap P runs t a b =
-    cond_both (nat_eq (length t) 0) (cmap_bytes current_writing runs) (cmap_with runs t) P (λ e. a) (λ e. b)
+    cond_both (nat_eq (length t) 0) (cmap_bytes current_writing runs) (cmap_of_three runs t) P (λ e. a) (λ e. b)
 
 pub no_map_changed : SequencesChangeNoMap
 no_map_changed runs t =
@@ -156,28 +156,29 @@ no_map_changed runs t =
     }
 
 -- the second record alone is of sequences
-later-none : (runs : List Run) (t : List ℕ) → has_later_record (cmap_with runs t) 1 ≡ false
-unfolding has_later_record encoding_record_count is_sequence_record u16_at cmap_with sequence_front
+later-none : (runs : List Run) (t : List ℕ) → has_later_record (cmap_of_three runs t) 1 ≡ false
+unfolding has_later_record encoding_record_count is_sequence_record u16_at cmap_of_three sequence_front
 later-none runs t =
-    let b = cmap_with runs t in
+    let b = cmap_of_three runs t in
     let first : nat_lt (length b) 4 ≡ false = le-ltb _ _ (omega arith) in
     let second : nat_le 28 (length b) ≡ true = le-leb _ _ (omega arith) in
     rw (first, second) refl
 
 found-second : (runs : List Run) (t : List ℕ)
-    → find (is_sequence_record (cmap_with runs t)) (range_with_len 0 (encoding_record_count (cmap_with runs t))) ≡ Some 1
-unfolding encoding_record_count is_sequence_record u16_at cmap_with sequence_front
+    → find (is_sequence_record (cmap_of_three runs t)) (range_with_len 0 (encoding_record_count (cmap_of_three runs t)))
+    ≡ Some 1
+unfolding encoding_record_count is_sequence_record u16_at cmap_of_three sequence_front
 found-second runs t =
-    let b = cmap_with runs t in
+    let b = cmap_of_three runs t in
     let first : nat_lt (length b) 4 ≡ false = le-ltb _ _ (omega arith) in
     let second : nat_le 12 (length b) ≡ true = le-leb _ _ (omega arith) in
     let third : nat_le 20 (length b) ≡ true = le-leb _ _ (omega arith) in
     rw (first, second, third) refl
 
-sole-second : (runs : List Run) (t : List ℕ) → sole_record (cmap_with runs t) ≡ Some 1
+sole-second : (runs : List Run) (t : List ℕ) → sole_record (cmap_of_three runs t) ≡ Some 1
 unfolding sole_record
 sole-second runs t =
-    let b = cmap_with runs t in
+    let b = cmap_of_three runs t in
     ap (option_and_then (λ k. cond (has_later_record b k) None (Some k))) (found-second runs t)
     ∙ ap (λ x. cond x None (Some 1)) (later-none runs t)
 
@@ -186,12 +187,12 @@ length-behind : (runs : List Run)
 unfolding sequence_front
 length-behind runs = let groups = length-groups_bytes runs in omega (arith, groups)
 
-offset-second : (runs : List Run) (t : List ℕ) → u32_at (cmap_with runs t) 16 ≡ 44 + 12 * length runs
-unfolding u32_at cmap_with sequence_front
+offset-second : (runs : List Run) (t : List ℕ) → u32_at (cmap_of_three runs t) 16 ≡ 44 + 12 * length runs
+unfolding u32_at cmap_of_three sequence_front
 offset-second runs t = omega arith
 
-from-second : (runs : List Run) (t : List ℕ) → from_subtable (cmap_with runs t) 1 ≡ t
-unfolding from_subtable cmap_with
+from-second : (runs : List Run) (t : List ℕ) → from_subtable (cmap_of_three runs t) 1 ≡ t
+unfolding from_subtable cmap_of_three
 from-second runs t =
     let front : List ℕ = flat_map bytes32 (sequence_front (length runs)) ++ flat_map group_bytes runs in
     ap (λ (n : ℕ). drop n (front ++ t)) (offset-second runs t)
@@ -201,10 +202,11 @@ pub sequences_read : SequencesAreRead
 unfolding subtable_of MAX_PAIRS if_strict
 sequences_read runs pairs order few =
     let t : List ℕ = Written.subtable_bytes pairs in
-    let b : List ℕ = cmap_with runs t in
+    let b : List ℕ = cmap_of_three runs t in
     let back = read_back pairs order few in
     let whole : whole_subtable t ≡ Some t = ap whole_subtable (sym (append-nil t)) ∙ back.whole [] in
-    ap (λ o. option_and_then if_strict (option_and_then (λ k. whole_subtable (from_subtable b k)) o)) (sole-second runs t)
+    ap (λ o. option_and_then if_strict (option_and_then (λ k. whole_subtable (from_subtable b k)) o))
+    (sole-second runs t)
     ∙ ap (λ (x : List ℕ). option_and_then if_strict (whole_subtable x)) (from-second runs t)
     ∙ ap (option_and_then if_strict) whole
     ∙ cond-true (is_strict t) (Some t) None back.strict
@@ -231,8 +233,8 @@ unfolding Written.subtable_bytes
 some_bytes pairs = ne_eqb (length (Written.subtable_bytes pairs)) 0 (λ e. omega (arith, e))
 
 pairs_of_cmap : (n : ℕ) (of_code : ℕ → ℕ) (runs : List Run) (pairs : List Pair) → AreAmong n pairs
-    → length pairs ≤ MAX_PAIRS → sequence_pairs (cmap_of runs (table_of pairs)) of_code n ≡ pairs
-unfolding sequence_pairs table_of cmap_of MAX_PAIRS
+    → length pairs ≤ MAX_PAIRS → sequence_pairs (cmap_with_sequences runs (sequence_table pairs)) of_code n ≡ pairs
+unfolding sequence_pairs sequence_table cmap_with_sequences MAX_PAIRS
 pairs_of_cmap n of_code runs [] r few =
     ap (λ o. option_map_or (λ s. filter_map (λ e. pair_of n (of_code e.code) e) (entries_of s)) o [])
     (subtable-plain runs)
@@ -242,7 +244,7 @@ pairs_of_cmap n of_code runs (p ∷ ps) r few =
     let order = ordered n 0 0 pairs (omega arith) r in
     let kept = λ (s : List ℕ). filter_map (λ e. pair_of n (of_code e.code) e) (entries_of s) in
     ap (λ (b : List ℕ). option_map_or kept (subtable_of b) [])
-    (cond-false (nat_eq (length t) 0) (cmap_bytes current_writing runs) (cmap_with runs t) (some_bytes pairs))
+    (cond-false (nat_eq (length t) 0) (cmap_bytes current_writing runs) (cmap_of_three runs t) (some_bytes pairs))
     ∙ ap (λ o. option_map_or kept o []) (sequences_read runs pairs order few)
     ∙ ap (filter_map (λ e. pair_of n (of_code e.code) e)) (read_back pairs order few).entries
     ∙ pairs_back n of_code 0 pairs r
@@ -252,4 +254,4 @@ unfolding sequences
 table_read_back c parts runs of_code fit =
     let n = glyph_count c in
     let ps = pairs_of_parts n parts in
-    ap table_of (pairs_of_cmap n of_code runs ps (room_rises n parts fit) (few_pairs ps fit))
+    ap sequence_table (pairs_of_cmap n of_code runs ps (room_rises n parts fit) (few_pairs ps fit))

@@ -1,6 +1,6 @@
 -- The entries of a subtable that is read stand in order.
-use Rattle.std.proofs.Common.{◌≡◌, ℕ, zero, suc, ◌+◌, ◌-◌, ◌*◌, ◌<◌, ◌≤◌, true, List, [], ◌∷◌, ◌++◌, Option, None, Some}
-use Rattle.std.proofs.Common.{arith, refl, subst}
+use Rattle.std.proofs.Common.{◌≡◌, ℕ, zero, suc, ◌+◌, ◌-◌, ◌*◌, ◌<◌, ◌≤◌, true, List, ◌++◌, Option, None, Some}
+use Rattle.std.proofs.Common.{arith}
 use Rattle.std.specs.List.{cons_option, filter_map, flat_map, range_with_len}
 use Rattle.std.specs.Option.{option_map}
 use Rattle.codes.specs.declared.code_points.TheConstants.{CODES}
@@ -61,7 +61,8 @@ records_rise s t low k zero e h = tt
 records_rise s t low k (suc n) e h =
     let order = (strict_selectors s t).order in
     let v = selector_at s k in
-    let within : v < CODES = (stands (selector_at s) (selector_at s) (selector_count s) k order (omega (arith, e))).within in
+    let here = stands (selector_at s) (selector_at s) (selector_count s) k order (omega (arith, e)) in
+    let within : v < CODES = here.within in
     let rest = records_rise s t (CODES * suc v) (k + 1) n (omega (arith, e)) (λ some.
     let above : v < selector_at s (k + 1) =
     begins_after (selector_at s) (selector_at s) (selector_count s) k (k + 1) order (omega arith)

@@ -1,9 +1,9 @@
 -- The glyph that pairs give a selector and code.
-use Rattle.std.proofs.Common.{◌≡◌, ℕ, suc, ◌+◌, ◌*◌, ◌<◌, ◌≤◌, Bool, true, false, cond, eqb, ◌&&◌, List, [], ◌∷◌, find}
+use Rattle.std.proofs.Common.{◌≡◌, ℕ, suc, ◌+◌, ◌*◌, ◌<◌, Bool, true, false, cond, eqb, List, [], ◌∷◌, find}
 use Rattle.std.proofs.Common.{Option, None, Some, refl, ap, sym, ◌∙◌, arith, inl, inr}
 use Rattle.std.specs.List.{cons_option, filter_map}
 use Rattle.std.specs.Option.{option_and_then, option_map, option_map_or}
-use Rattle.std.proofs.lemmas.Bool.{and_parts, cases_Bool, cond-true, cond_both, eqb-true}
+use Rattle.std.proofs.lemmas.Bool.{and_parts, cases_Bool, eqb-true}
 use Rattle.codes.specs.declared.code_points.TheConstants.{CODES}
 use Rattle.variation_sequences.specs.Encoding.{subtable_of}
 use Rattle.variation_sequences.specs.Pairs.{pair_of, sequence_pairs}
@@ -15,7 +15,7 @@ use Rattle.variation_sequences.proofs.FoundLemmas.{found_is_listed}
 use Rattle.font_theory.specs.Content.{glyph_count}
 use Rattle.sequence_parts.specs.Laws.{FontHasItsGlyphs, TableHasItsGlyphs}
 use Rattle.sequence_parts.specs.OrderedPairs.{glyph_in, is_pair_of, place_of}
-use Rattle.sequence_parts.specs.SequenceTable.{is_read, pairs_in, table_of}
+use Rattle.sequence_parts.specs.SequenceTable.{sequences_in}
 use Rattle.sequence_parts.proofs.ClashLemmas.{at_place}
 use Rattle.sequence_parts.proofs.EntryLemmas.{HasCodes, entries_rise, entry_place}
 use Rattle.sequence_parts.proofs.LawLemmas.{font_read, strict_subtable, IsStrictIfSome}
@@ -98,7 +98,7 @@ module _ (n : ℕ) (of_code : ℕ → ℕ) (below : MapsBelow n of_code) where
   glyph_of_font cmap v c = glyph_of_some v c (subtable_of cmap) (strict_subtable cmap)
 
 pub table_glyphs : TableHasItsGlyphs
-unfolding pairs_in
+unfolding sequences_in
 table_glyphs n t v c read =
     ap (λ b. glyph_in (cond b (filter_map (pair_of n 0) (entries_of t)) []) v c) read
     ∙ glyph_of_subtable n (λ _. 0) (λ k some. absurd (omega (arith, some))) v c t (is_read-strict t read)

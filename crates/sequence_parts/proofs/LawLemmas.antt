@@ -1,9 +1,9 @@
 -- Laws of the table of a font, and of parts of one table.
-use Rattle.std.proofs.Common.{◌≡◌, ℕ, ◌<◌, ◌≤◌, Bool, true, false, cond, not, eqb, ◌⊎◌, List, [], length, Option, None, Some}
+use Rattle.std.proofs.Common.{◌≡◌, ℕ, ◌<◌, ◌≤◌, Bool, true, false, cond, eqb, ◌⊎◌, List, [], length, Option, None, Some}
 use Rattle.std.proofs.Common.{refl, ap, subst, sym, ◌∙◌, arith, inl, inr}
 use Rattle.std.specs.List.{filter_map}
 use Rattle.std.specs.Option.{is_some, option_and_then, option_map_or, unwrap_or}
-use Rattle.std.proofs.lemmas.Bool.{both_ways, cases_Bool, cond-false, cond-true}
+use Rattle.std.proofs.lemmas.Bool.{both_ways}
 use Rattle.variation_sequences.specs.Encoding.{if_strict, sole_record, subtable_of, whole_subtable}
 use Rattle.variation_sequences.specs.Encoding.{from_subtable}
 use Rattle.variation_sequences.specs.Pairs.{pair_of, part_of, sequence_pairs}
@@ -12,12 +12,13 @@ use Rattle.variation_sequences.specs.Strict.{is_strict}
 use Rattle.variation_sequences.specs.declared.variant.Pair.{Pair}
 use Rattle.font_theory.specs.Content.{glyph_count}
 use Rattle.font_theory.specs.Parting.{Tables}
-use Rattle.sequence_parts.specs.Laws.{AreOf, FontHasOwnParts, PartsAreTheTable, PartsOfOneTableFit, WholeIsOfItsParts}
-use Rattle.sequence_parts.specs.OrderedPairs.{first_twice}
-use Rattle.sequence_parts.specs.SequenceTable.{MAX_PAIRS, either_part, first_clash, have_room, pairs_in}
-use Rattle.sequence_parts.specs.SequenceTable.{pairs_of_parts, sequences, table_of}
+use Rattle.sequence_parts.specs.Laws.{AreOf, FitWithoutClash, FontHasOwnParts, PartsAreTheTable, PartsOfOneTableFit}
+use Rattle.sequence_parts.specs.Laws.{WholeIsOfItsParts}
+use Rattle.sequence_parts.specs.SequenceTable.{MAX_PAIRS, either_part, first_clash, have_room, sequences_in}
+use Rattle.sequence_parts.specs.SequenceTable.{pairs_of_parts, sequences, sequence_table}
 use Rattle.sequence_parts.proofs.PartLemmas.{few_pairs, fewer_room, no_clash, own_merged, own_room, room_rises}
-use Rattle.sequence_parts.proofs.TableLemmas.{AreAmong, pairs_few, pairs_in-among, pairs_in-table, pairs_rise}
+use Rattle.sequence_parts.proofs.PartLemmas.{room_without}
+use Rattle.sequence_parts.proofs.TableLemmas.{AreAmong, pairs_few, sequences_in-among, sequences_in-table, pairs_rise}
 
 -- the pairs of a font are in order
 abbrev pub IsStrictIfSome : Option (List ℕ) → Type 0
@@ -52,41 +53,43 @@ unfolding sequence_pairs
 font_pairs n of_code cmap below = pairs_of_some n of_code (subtable_of cmap) below (strict_subtable cmap)
 
 pub font_read : (n : ℕ) (of_code : ℕ → ℕ) (cmap : List ℕ) → ((code : ℕ) → of_code code < n)
-    → pairs_in n (table_of (sequence_pairs cmap of_code n)) ≡ sequence_pairs cmap of_code n
+    → sequences_in n (sequence_table (sequence_pairs cmap of_code n)) ≡ sequence_pairs cmap of_code n
 font_read n of_code cmap below =
     let both = font_pairs n of_code cmap below in
-    pairs_in-table n (sequence_pairs cmap of_code n) both.0 both.1
+    sequences_in-table n (sequence_pairs cmap of_code n) both.0 both.1
 
 -- so the parts of its table are its pairs
 pub own_parts_of_font : FontHasOwnParts
 unfolding sequences
 own_parts_of_font c cmap of_code below =
     let n = glyph_count c in
-    let t = table_of (sequence_pairs cmap of_code n) in
-    let both = pairs_in-among n t in
+    let t = sequence_table (sequence_pairs cmap of_code n) in
+    let both = sequences_in-among n t in
     record {
-      part = λ g. ap (λ (ps : List Pair). table_of (part_of ps g)) (font_read n of_code cmap below);
-      fits = own_room n (pairs_in n t) both.0 both.1;
+      part = λ g. ap (λ (ps : List Pair). sequence_table (part_of ps g)) (font_read n of_code cmap below);
+      fits = own_room n (sequences_in n t) both.0 both.1;
     }
 
 -- the table of the parts of a table has the pairs that are read of it
-parts_together : (c : Tables) (t : List ℕ) → sequences.whole c [] (sequences.part c t) ≡ table_of (pairs_in (glyph_count c) t)
+parts_together : (c : Tables) (t : List ℕ)
+    → sequences.whole c [] (sequences.part c t) ≡ sequence_table (sequences_in (glyph_count c) t)
 unfolding sequences
 parts_together c t =
     let n = glyph_count c in
-    let both = pairs_in-among n t in ap table_of (own_merged n (pairs_in n t) both.0 both.1)
+    let both = sequences_in-among n t in ap sequence_table (own_merged n (sequences_in n t) both.0 both.1)
 
 pub table_of_parts : PartsAreTheTable
 table_of_parts c cmap of_code below =
-    parts_together c (table_of (sequence_pairs cmap of_code (glyph_count c)))
-    ∙ ap table_of (font_read (glyph_count c) of_code cmap below)
+    parts_together c (sequence_table (sequence_pairs cmap of_code (glyph_count c)))
+    ∙ ap sequence_table (font_read (glyph_count c) of_code cmap below)
 
 pub whole_again : WholeIsOfItsParts
 unfolding sequences
 whole_again c parts fit =
     let n = glyph_count c in
     let ps = pairs_of_parts n parts in
-    parts_together c (table_of ps) ∙ ap table_of (pairs_in-table n ps (room_rises n parts fit) (few_pairs ps fit))
+    parts_together c (sequence_table ps)
+    ∙ ap sequence_table (sequences_in-table n ps (room_rises n parts fit) (few_pairs ps fit))
 
 -- parts of one table
 of_either : (b p q part : List ℕ) → (p ≡ []) ⊎ (p ≡ part) → (q ≡ []) ⊎ (q ≡ part)
@@ -99,8 +102,8 @@ fits_of : (c : Tables) (t : List ℕ) (parts : ℕ → List ℕ) → AreOf c t p
 unfolding sequences
 fits_of c t parts of =
     let n = glyph_count c in
-    let both = pairs_in-among n t in
-    fewer_room n (sequences.part c t) parts of (own_room n (pairs_in n t) both.0 both.1)
+    let both = sequences_in-among n t in
+    fewer_room n (sequences.part c t) parts of (own_room n (sequences_in n t) both.0 both.1)
 
 choice : (P Q : ℕ → List ℕ) (g : ℕ) → (either_part P Q g ≡ P g) ⊎ (either_part P Q g ≡ Q g)
 choice P Q g = by_test (eqb (length (P g)) 0)
@@ -108,6 +111,10 @@ choice P Q g = by_test (eqb (length (P g)) 0)
     by_test : (b : Bool) → (cond b (Q g) (P g) ≡ P g) ⊎ (cond b (Q g) (P g) ≡ Q g)
     by_test true = inr refl
     by_test false = inl refl
+
+pub fit_without_clash : FitWithoutClash
+unfolding sequences first_clash
+fit_without_clash t P Q apart few = room_without (pairs_of_parts (glyph_count t) (either_part P Q)) apart few
 
 pub one_table_fits : PartsOfOneTableFit
 unfolding sequences first_clash

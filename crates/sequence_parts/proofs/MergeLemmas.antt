@@ -1,13 +1,13 @@
 -- Pairs merged in order.
-use Rattle.std.proofs.Common.{◌≡◌, ℕ, suc, ◌<◌, ◌≤◌, Bool, true, false, cond, not, ltb, eqb, ◌||◌, List, [], ◌∷◌, length}
-use Rattle.std.proofs.Common.{Option, None, Some, refl, ap, arith, inl, inr, ◌∙◌, sym, subst}
+use Rattle.std.proofs.Common.{◌≡◌, ℕ, suc, ◌<◌, ◌≤◌, Bool, true, false, cond, ltb, eqb, ◌||◌, List, [], ◌∷◌}
+use Rattle.std.proofs.Common.{None, refl, ap, arith, inl, inr, ◌∙◌, sym, subst}
 use Rattle.std.specs.List.{filter}
 use Rattle.std.specs.Option.{is_some}
 use Rattle.std.proofs.lemmas.Bool.{both_ways, cases_Bool, cases_lt, cond-false, cond-true, cond_both, eqb-false}
 use Rattle.std.proofs.lemmas.Bool.{le-ltb, lt-ltb, ne_eqb}
 use Rattle.variation_sequences.specs.declared.variant.Pair.{Pair}
 use Rattle.sequence_parts.specs.OrderedPairs.{first_twice, merged, place_of, with_one}
-use Rattle.sequence_parts.proofs.OrderLemmas.{Rises, rises_filter, rises_from}
+use Rattle.sequence_parts.proofs.OrderLemmas.{Rises, rises_filter}
 
 -- one more pair
 one-above : (p q : Pair) (qs : List Pair) → place_of q < place_of p → with_one p (q ∷ qs) ≡ q ∷ with_one p qs
@@ -18,9 +18,9 @@ one-here : (p q : Pair) (qs : List Pair) → place_of p ≤ place_of q → with_
 unfolding with_one
 one-here p q qs h = cond-false (ltb (place_of q) (place_of p)) _ _ (le-ltb (place_of q) (place_of p) h)
 
-one-alone : (p : Pair) → with_one p [] ≡ p ∷ []
+one-none : (p : Pair) → with_one p [] ≡ p ∷ []
 unfolding with_one
-one-alone p = refl
+one-none p = refl
 
 module _ (P : Pair → Type 0) where
   -- pairs in order, of which some may have one place
@@ -46,7 +46,7 @@ module _ (P : Pair → Type 0) where
 
   sorts_one : (p : Pair) (low : ℕ) (qs : List Pair) → P p → low ≤ place_of p → Sorts low qs
       → Sorts low (with_one p qs)
-  sorts_one p low [] x h s = subst (Sorts low) (sym (one-alone p)) (x, h, tt)
+  sorts_one p low [] x h s = subst (Sorts low) (sym (one-none p)) (x, h, tt)
   sorts_one p low (q ∷ qs) x h s = elim (cases_lt (place_of q) (place_of p)) [
     | inl above ↦
         let below : place_of q ≤ place_of p = omega (arith, above) in
@@ -61,7 +61,7 @@ module _ (P : Pair → Type 0) where
 
   -- a pair in front of all
   one-first : (p : Pair) (qs : List Pair) → Sorts (place_of p) qs → with_one p qs ≡ p ∷ qs
-  one-first p [] s = one-alone p
+  one-first p [] s = one-none p
   one-first p (q ∷ qs) s = one-here p q qs s.1
 
   pub merged-none : (low : ℕ) (ps : List Pair) → Rises P place_of low ps → merged ps [] ≡ ps
@@ -82,7 +82,7 @@ module _ (P : Pair → Type 0) where
   -- what a test keeps of merged pairs
   filter-one_no : (test : Pair → Bool) (p : Pair) (qs : List Pair) → test p ≡ false
       → filter test (with_one p qs) ≡ filter test qs
-  filter-one_no test p [] f = ap (filter test) (one-alone p) ∙ cond-false (test p) (p ∷ []) [] f
+  filter-one_no test p [] f = ap (filter test) (one-none p) ∙ cond-false (test p) (p ∷ []) [] f
   filter-one_no test p (q ∷ qs) f = elim (cases_lt (place_of q) (place_of p)) [
     | inl above ↦
         ap (filter test) (one-above p q qs above)
@@ -95,7 +95,7 @@ module _ (P : Pair → Type 0) where
   filter-one_yes : (test : Pair → Bool) (p : Pair) (low : ℕ) (qs : List Pair) → test p ≡ true → Sorts low qs
       → filter test (with_one p qs) ≡ with_one p (filter test qs)
   filter-one_yes test p low [] t s =
-      ap (filter test) (one-alone p) ∙ cond-true (test p) (p ∷ []) [] t ∙ sym (one-alone p)
+      ap (filter test) (one-none p) ∙ cond-true (test p) (p ∷ []) [] t ∙ sym (one-none p)
   filter-one_yes test p low (q ∷ qs) t s = elim (cases_lt (place_of q) (place_of p)) [
     | inl above ↦
         ap (filter test) (one-above p q qs above)

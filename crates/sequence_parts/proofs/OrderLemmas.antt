@@ -1,8 +1,8 @@
 -- Lists in strict order.
-use Rattle.std.proofs.Common.{◌≡◌, ℕ, suc, ◌<◌, ◌≤◌, Bool, true, false, cond, List, [], ◌∷◌, length, Option, None}
-use Rattle.std.proofs.Common.{Some, refl, ap, arith, inl, inr, ◌∙◌, sym}
+use Rattle.std.proofs.Common.{◌≡◌, ℕ, suc, ◌≤◌, Bool, true, false, cond, List, [], ◌∷◌, length, Option, None}
+use Rattle.std.proofs.Common.{Some, refl, ap, arith, ◌∙◌}
 use Rattle.std.specs.List.{cons_option, filter, filter_map}
-use Rattle.std.proofs.lemmas.Bool.{cases_Bool, cond_both}
+use Rattle.std.proofs.lemmas.Bool.{cond_both}
 
 -- what is asked of each element holds, and their places rise from a bound on
 abbrev pub Rises : {X : Type 0} → (X → Type 0) → (X → ℕ) → ℕ → List X → Type 0

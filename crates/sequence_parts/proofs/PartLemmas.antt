@@ -1,22 +1,23 @@
 -- Variation sequences are divided as is asked.
 use Rattle.std.proofs.Common.{◌≡◌, ℕ, zero, suc, ◌+◌, ◌<◌, ◌≤◌, Bool, true, false, cond, eqb, leb, ltb, not, ◌&&◌, ◌||◌}
-use Rattle.std.proofs.Common.{◌⊎◌, List, [], ◌∷◌, length, Option, None, Some, refl, ap, subst, sym, ◌∙◌, arith, inl, inr}
+use Rattle.std.proofs.Common.{◌⊎◌, List, [], ◌∷◌, length, Option, None, Some, refl, ap, sym, ◌∙◌, arith, inl, inr}
 use Rattle.std.specs.List.{filter, range_with_len}
 use Rattle.std.specs.Option.{is_some}
-use Rattle.std.proofs.lemmas.Bool.{and_from, and_parts, both_ways, cases_Bool, cases_eq, cond-true, eq-eqb, eqb-true, le-leb}
-use Rattle.std.proofs.lemmas.Bool.{leb-true, ne_eqb}
+use Rattle.std.proofs.lemmas.Bool.{and_from, and_parts, both_ways, cases_Bool, cases_eq, cond-true, eq-eqb}
+use Rattle.std.proofs.lemmas.Bool.{eqb-true, le-leb, leb-true, ne_eqb}
 use Rattle.std.proofs.lemmas.Bool.Decides.{nat_tests}
 use Rattle.variation_sequences.specs.Pairs.{part_of}
 use Rattle.variation_sequences.specs.declared.variant.Pair.{Pair}
 use Rattle.font_theory.specs.Content.{glyph_count}
-use Rattle.font_theory.specs.Parting.{IsPart, IsParting, Tables}
+use Rattle.font_theory.specs.Parting.{IsParting}
 use Rattle.sequence_parts.specs.OrderedPairs.{first_twice, merged, place_of}
-use Rattle.sequence_parts.specs.SequenceTable.{MAX_PAIRS, have_room, pairs_among, pairs_at, pairs_in}
-use Rattle.sequence_parts.specs.SequenceTable.{pairs_of_parts, sequences, table_of}
+use Rattle.sequence_parts.specs.SequenceTable.{MAX_PAIRS, have_room, pairs_among, pairs_at, sequences_in}
+use Rattle.sequence_parts.specs.SequenceTable.{pairs_of_parts, sequences, sequence_table}
 use Rattle.sequence_parts.proofs.MergeLemmas.{Sorts, filter-merged, merged-filters, merged-none, once_rises, rises_once}
 use Rattle.sequence_parts.proofs.MergeLemmas.{sorts_merged}
-use Rattle.sequence_parts.proofs.OrderLemmas.{Rises, filter_all, filter_few, filter_none, rises_filter}
-use Rattle.sequence_parts.proofs.TableLemmas.{AreAmong, IsPairAmong, pairs_in-among, pairs_in-none, pairs_in-table}
+use Rattle.sequence_parts.proofs.OrderLemmas.{filter_all, filter_few, filter_none, rises_filter}
+use Rattle.sequence_parts.proofs.TableLemmas.{AreAmong, IsPairAmong, sequences_in-among, sequences_in-none}
+use Rattle.sequence_parts.proofs.TableLemmas.{sequences_in-table}
 
 -- a test of glyphs keeps the part of a glyph, or nothing of it
 no_pairs : (b : Bool) (ps : List Pair) → ps ≡ [] → ps ≡ cond b ps []
@@ -64,7 +65,7 @@ part-part ps g =
 -- the pairs of parts
 module _ (n : ℕ) (parts : ℕ → List ℕ) where
   pub at-among : (g : ℕ) → AreAmong n (pairs_at n parts g)
-  at-among g = part-among n (pairs_in n (parts g)) g (pairs_in-among n (parts g)).0
+  at-among g = part-among n (sequences_in n (parts g)) g (sequences_in-among n (parts g)).0
 
   pub among-sorts : (gs : List ℕ) → Sorts (IsPairAmong n) 0 (pairs_among n parts gs)
   among-sorts [] = tt
@@ -79,7 +80,7 @@ module _ (n : ℕ) (parts : ℕ → List ℕ) where
   filter-among keep fewer e (g ∷ gs) =
       filter-merged (IsPairAmong n) (λ p. keep p.glyph) 0 (pairs_at n parts g) (pairs_among n parts gs) (at-among g)
       (among-sorts gs)
-      ∙ (λ i. merged ((filter-part keep (pairs_in n (parts g)) g ∙ sym (e g)) i) (filter-among keep fewer e gs i))
+      ∙ (λ i. merged ((filter-part keep (sequences_in n (parts g)) g ∙ sym (e g)) i) (filter-among keep fewer e gs i))
 
   -- the part of a glyph
   part-past : (g a m : ℕ) → g < a → filter (λ p. eqb p.glyph g) (pairs_among n parts (range_with_len a m)) ≡ []
@@ -87,7 +88,7 @@ module _ (n : ℕ) (parts : ℕ → List ℕ) where
   part-past g a (suc m) h =
       filter-merged (IsPairAmong n) (λ p. eqb p.glyph g) 0 (pairs_at n parts a)
       (pairs_among n parts (range_with_len (a + 1) m)) (at-among a) (among-sorts (range_with_len (a + 1) m))
-      ∙ (λ i. merged ((filter-part (λ k. eqb k g) (pairs_in n (parts a)) a
+      ∙ (λ i. merged ((filter-part (λ k. eqb k g) (sequences_in n (parts a)) a
       ∙ ap (λ b. cond b (pairs_at n parts a) []) (ne_eqb a g (λ e. omega (arith, e, h)))) i)
       (part-past g (a + 1) m (omega (arith, h)) i))
 
@@ -97,8 +98,9 @@ module _ (n : ℕ) (parts : ℕ → List ℕ) where
   part-here g a (suc m) h l =
       filter-merged (IsPairAmong n) (λ p. eqb p.glyph g) 0 (pairs_at n parts a)
       (pairs_among n parts (range_with_len (a + 1) m)) (at-among a) (among-sorts (range_with_len (a + 1) m))
-      ∙ ap (λ (ps : List Pair). merged ps (filter (λ p. eqb p.glyph g) (pairs_among n parts (range_with_len (a + 1) m))))
-      (filter-part (λ k. eqb k g) (pairs_in n (parts a)) a)
+      ∙ ap (λ (ps : List Pair). merged ps
+      (filter (λ p. eqb p.glyph g) (pairs_among n parts (range_with_len (a + 1) m))))
+      (filter-part (λ k. eqb k g) (sequences_in n (parts a)) a)
       ∙ elim (cases_eq a g) [
         | inl e ↦
             (λ i. merged (cond (eq-eqb a g e i) (pairs_at n parts a) [])
@@ -128,10 +130,13 @@ pub few_pairs : (ps : List Pair) → have_room ps ≡ true → length ps ≤ MAX
 unfolding have_room
 few_pairs ps t = leb-true (length ps) MAX_PAIRS (and_parts _ _ t).1
 
-pub room_from : (n : ℕ) (ps : List Pair) → AreAmong n ps → length ps ≤ MAX_PAIRS → have_room ps ≡ true
+pub room_without : (ps : List Pair) → first_twice ps ≡ None → length ps ≤ MAX_PAIRS → have_room ps ≡ true
 unfolding have_room
-room_from n ps r few =
-    and_from _ _ (ap (λ o. not (is_some o)) (rises_once (IsPairAmong n) 0 ps r)) (le-leb (length ps) MAX_PAIRS few)
+room_without ps apart few =
+    and_from _ _ (ap (λ o. not (is_some o)) apart) (le-leb (length ps) MAX_PAIRS few)
+
+pub room_from : (n : ℕ) (ps : List Pair) → AreAmong n ps → length ps ≤ MAX_PAIRS → have_room ps ≡ true
+room_from n ps r few = room_without ps (rises_once (IsPairAmong n) 0 ps r) few
 
 pub room_rises : (n : ℕ) (parts : ℕ → List ℕ) → have_room (pairs_of_parts n parts) ≡ true
     → AreAmong n (pairs_of_parts n parts)
@@ -143,12 +148,12 @@ room_rises n parts t =
 -- parts of the pairs of one table are these pairs
 module _ (n : ℕ) (ps : List Pair) (are : AreAmong n ps) (few : length ps ≤ MAX_PAIRS) where
   abbrev own_parts : ℕ → List ℕ
-  own_parts g = table_of (part_of ps g)
+  own_parts g = sequence_table (part_of ps g)
 
   pub own_pairs : (g : ℕ) → pairs_at n own_parts g ≡ part_of ps g
   own_pairs g =
       ap (λ (qs : List Pair). part_of qs g)
-      (pairs_in-table n (part_of ps g) (part-among n ps g are) (omega (arith, part-few ps g, few)))
+      (sequences_in-table n (part_of ps g) (part-among n ps g are) (omega (arith, part-few ps g, few)))
       ∙ part-part ps g
 
   abbrev in_range : ℕ → ℕ → Pair → Bool
@@ -192,9 +197,9 @@ module _ (n : ℕ) (parts fewer : ℕ → List ℕ) (few : (g : ℕ) → (fewer 
   kept_pairs : (g : ℕ) (w : (fewer g ≡ []) ⊎ (fewer g ≡ parts g))
       → pairs_at n fewer g ≡ cond (kept w) (pairs_at n parts g) []
   kept_pairs g (inl e) =
-      ap (λ (b : List ℕ). part_of (pairs_in n b) g) e ∙ ap (λ (ps : List Pair). part_of ps g) (pairs_in-none n)
+      ap (λ (b : List ℕ). part_of (sequences_in n b) g) e ∙ ap (λ (ps : List Pair). part_of ps g) (sequences_in-none n)
       ∙ part-none g
-  kept_pairs g (inr e) = ap (λ (b : List ℕ). part_of (pairs_in n b) g) e
+  kept_pairs g (inr e) = ap (λ (b : List ℕ). part_of (sequences_in n b) g) e
 
   fewer_pairs : filter (λ p. kept (few p.glyph)) (pairs_of_parts n parts) ≡ pairs_of_parts n fewer
   unfolding pairs_of_parts
@@ -211,24 +216,25 @@ module _ (n : ℕ) (parts fewer : ℕ → List ℕ) (few : (g : ℕ) → (fewer 
 
 -- the part of a glyph in the table of parts
 pub part_in_whole : (n : ℕ) (parts : ℕ → List ℕ) (g : ℕ) → have_room (pairs_of_parts n parts) ≡ true → g < n
-    → part_of (pairs_in n (table_of (pairs_of_parts n parts))) g ≡ pairs_at n parts g
+    → part_of (sequences_in n (sequence_table (pairs_of_parts n parts))) g ≡ pairs_at n parts g
 part_in_whole n parts g t h =
     ap (λ (ps : List Pair). part_of ps g)
-    (pairs_in-table n (pairs_of_parts n parts) (room_rises n parts t) (few_pairs (pairs_of_parts n parts) t))
+    (sequences_in-table n (pairs_of_parts n parts) (room_rises n parts t) (few_pairs (pairs_of_parts n parts) t))
     ∙ part-of_parts n parts g h
 
 -- a part that is one
 pub part_again : (n : ℕ) (parts : ℕ → List ℕ) (g : ℕ)
-    → (parts g ≡ []) ⊎ ((t : List ℕ) × (table_of (part_of (pairs_in n t) g) ≡ parts g))
-    → table_of (pairs_at n parts g) ≡ parts g
-unfolding table_of
+    → (parts g ≡ []) ⊎ ((t : List ℕ) × (sequence_table (part_of (sequences_in n t) g) ≡ parts g))
+    → sequence_table (pairs_at n parts g) ≡ parts g
+unfolding sequence_table
 part_again n parts g (inl e) =
-    ap (λ (b : List ℕ). table_of (part_of (pairs_in n b) g)) e
-    ∙ ap (λ (ps : List Pair). table_of (part_of ps g)) (pairs_in-none n) ∙ ap table_of (part-none g) ∙ sym e
+    ap (λ (b : List ℕ). sequence_table (part_of (sequences_in n b) g)) e
+    ∙ ap (λ (ps : List Pair). sequence_table (part_of ps g)) (sequences_in-none n)
+    ∙ ap sequence_table (part-none g) ∙ sym e
 part_again n parts g (inr w) =
-    let both = pairs_in-among n w.0 in
-    ap (λ (b : List ℕ). table_of (part_of (pairs_in n b) g)) (sym w.1)
-    ∙ ap table_of (own_pairs n (pairs_in n w.0) both.0 both.1 g) ∙ w.1
+    let both = sequences_in-among n w.0 in
+    ap (λ (b : List ℕ). sequence_table (part_of (sequences_in n b) g)) (sym w.1)
+    ∙ ap sequence_table (own_pairs n (sequences_in n w.0) both.0 both.1 g) ∙ w.1
 
 pub IsParting-sequences : IsParting (λ _ _. false) sequences
 unfolding sequences
@@ -237,12 +243,12 @@ IsParting-sequences = record {
   whole_good = λ c frame parts h. refl;
   frame_again = λ c t h. refl;
   own_fit = λ c t h.
-      let both = pairs_in-among (glyph_count c) t in
-      own_room (glyph_count c) (pairs_in (glyph_count c) t) both.0 both.1;
+      let both = sequences_in-among (glyph_count c) t in
+      own_room (glyph_count c) (sequences_in (glyph_count c) t) both.0 both.1;
   fewer_fit = λ c frame parts fewer h fit few. fewer_room (glyph_count c) parts fewer few fit;
   frame_is = λ c frame parts h fit. refl;
   part_is = λ c frame parts g h fit low part.
       let n = glyph_count c in
-      ap table_of (part_in_whole n parts g fit low)
+      ap sequence_table (part_in_whole n parts g fit low)
       ∙ part_again n parts g (elim part [ inl e ↦ inl e | inr w ↦ inr (w.0, w.2) ]);
 }

@@ -1,6 +1,6 @@
 -- What is read of a table of pairs.
-use Rattle.std.proofs.Common.{◌≡◌, ℕ, zero, suc, ◌+◌, ◌*◌, ◌<◌, ◌≤◌, Bool, true, false, cond, eqb, ltb, ◌&&◌, ◌⊎◌, List}
-use Rattle.std.proofs.Common.{[], ◌∷◌, ◌++◌, length, map, Option, None, Some, refl, ap, subst, sym, ◌∙◌, arith, inl, inr}
+use Rattle.std.proofs.Common.{◌≡◌, ℕ, suc, ◌+◌, ◌*◌, ◌<◌, ◌≤◌, Bool, true, false, cond, eqb, ltb, ◌⊎◌, List}
+use Rattle.std.proofs.Common.{[], ◌∷◌, length, map, None, Some, refl, ap, subst, sym, ◌∙◌, arith, inl, inr}
 use Rattle.std.specs.List.{cons_option, filter_map}
 use Rattle.std.specs.Option.{is_some, unwrap_or}
 use Rattle.std.proofs.lemmas.Bool.{and_from, and_parts, both_ways, cases_Bool, cases_lt, cond-false, cond-true, eq-eqb}
@@ -22,7 +22,7 @@ use Rattle.variation_sequences.proofs.GroupLemmas.{all_grouped}
 use Rattle.variation_sequences.proofs.ReadBackLemmas.{read_back}
 use Rattle.variation_sequences.proofs.WrittenLemmas.{length-made, size_read}
 use Rattle.sequence_parts.specs.OrderedPairs.{place_of}
-use Rattle.sequence_parts.specs.SequenceTable.{MAX_PAIRS, is_read, pairs_in, table_of}
+use Rattle.sequence_parts.specs.SequenceTable.{MAX_PAIRS, is_read, sequences_in, sequence_table}
 use Rattle.sequence_parts.proofs.EntryLemmas.{HasCodes, entries_rise, entry_place}
 use Rattle.sequence_parts.proofs.OrderLemmas.{Rises, filter_map_few, rises_filter_map, rises_from}
 
@@ -92,16 +92,17 @@ in_table : (n : ℕ) (t : List ℕ) (b : Bool) → (b ≡ true → is_strict t �
     → AreAmong n (cond b (filter_map (pair_of n 0) (entries_of t)) [])
     × (length (cond b (filter_map (pair_of n 0) (entries_of t)) []) ≤ MAX_PAIRS)
 in_table n t true strict =
-    (pairs_rise n (λ _. 0) (λ c some. absurd (omega (arith, some))) t (strict refl), pairs_few n (λ _. 0) t (strict refl))
+    let read = strict refl in
+    (pairs_rise n (λ _. 0) (λ c some. absurd (omega (arith, some))) t read, pairs_few n (λ _. 0) t read)
 in_table n t false strict = (tt, omega arith)
 
 pub is_read-strict : (t : List ℕ) → is_read t ≡ true → is_strict t ≡ true
 unfolding is_read
 is_read-strict t r = (and_parts _ _ r).1
 
-pub pairs_in-among : (n : ℕ) (t : List ℕ) → AreAmong n (pairs_in n t) × (length (pairs_in n t) ≤ MAX_PAIRS)
-unfolding pairs_in
-pairs_in-among n t = in_table n t (is_read t) (is_read-strict t)
+pub sequences_in-among : (n : ℕ) (t : List ℕ) → AreAmong n (sequences_in n t) × (length (sequences_in n t) ≤ MAX_PAIRS)
+unfolding sequences_in
+sequences_in-among n t = in_table n t (is_read t) (is_read-strict t)
 
 -- pairs that are written are in order
 pub ordered : (n v c : ℕ) (ps : List Pair) → c ≤ CODES → Rises (IsPairAmong n) place_of (CODES * v + c) ps
@@ -153,20 +154,23 @@ is_read-written n ps r few =
     let b : List ℕ = subtable_bytes ps in
     let size : length b ≡ subtable_size ps = length-made ps (ap (λ (qs : List Pair). length qs) (all_grouped ps)) in
     let whole : whole_subtable b ≡ Some b = ap whole_subtable (sym (append-nil b)) ∙ back.whole [] in
-    and_from _ _ (and_from _ _ (whole_is b whole) (eq-eqb (u32_at b 2) (length b) (size_read ps ∙ sym size))) back.strict
+    let end = eq-eqb (u32_at b 2) (length b) (size_read ps ∙ sym size) in
+    and_from _ _ (and_from _ _ (whole_is b whole) end) back.strict
 
-read_written : (n : ℕ) (ps : List Pair) → AreAmong n ps → length ps ≤ MAX_PAIRS → pairs_in n (subtable_bytes ps) ≡ ps
-unfolding pairs_in MAX_PAIRS
+read_written : (n : ℕ) (ps : List Pair) → AreAmong n ps → length ps ≤ MAX_PAIRS
+    → sequences_in n (subtable_bytes ps) ≡ ps
+unfolding sequences_in MAX_PAIRS
 read_written n ps r few =
     let back = read_back ps (ordered n 0 0 ps (omega arith) r) few in
     cond-true (is_read (subtable_bytes ps)) _ [] (is_read-written n ps r few)
     ∙ ap (filter_map (pair_of n 0)) back.entries ∙ pairs_back n (λ _. 0) 0 ps r
 
-pub pairs_in-none : (n : ℕ) → pairs_in n [] ≡ []
-unfolding pairs_in is_read
-pairs_in-none n = refl
+pub sequences_in-none : (n : ℕ) → sequences_in n [] ≡ []
+unfolding sequences_in is_read
+sequences_in-none n = refl
 
-pub pairs_in-table : (n : ℕ) (ps : List Pair) → AreAmong n ps → length ps ≤ MAX_PAIRS → pairs_in n (table_of ps) ≡ ps
-unfolding table_of
-pairs_in-table n [] r few = pairs_in-none n
-pairs_in-table n (p ∷ ps) r few = read_written n (p ∷ ps) r few
+pub sequences_in-table : (n : ℕ) (ps : List Pair) → AreAmong n ps → length ps ≤ MAX_PAIRS
+    → sequences_in n (sequence_table ps) ≡ ps
+unfolding sequence_table
+sequences_in-table n [] r few = sequences_in-none n
+sequences_in-table n (p ∷ ps) r few = read_written n (p ∷ ps) r few

@@ -1,12 +1,13 @@
 -- Laws of variation sequences as a divided table, this project's own, each of them the contract of a function.
-use Rattle.std.specs.Prelude.{◌≡◌, ◌≢◌, ℕ, ◌<◌, ◌⊎◌, false, true, List, [], None, Some}
+use Rattle.std.specs.Prelude.{◌≡◌, ◌≢◌, ℕ, ◌<◌, ◌≤◌, ◌⊎◌, false, true, List, [], length, None, Some}
 use Rattle.variation_sequences.specs.Pairs.{part_of, sequence_pairs}
 use Rattle.variation_sequences.specs.Sequences.{sequence_of, variant_glyph, variant_of}
 use Rattle.font_theory.specs.Content.{glyph_count}
 use Rattle.font_theory.specs.Parting.{IsParting, Tables}
 use Rattle.sequence_parts.specs.OrderedPairs.{glyph_in}
-use Rattle.sequence_parts.specs.SequenceTable.{either_part, first_clash, has_sequence, is_read, pairs_in, sequences}
-use Rattle.sequence_parts.specs.SequenceTable.{sequences_of_font, table_of}
+use Rattle.sequence_parts.specs.SequenceTable.{MAX_PAIRS, either_part, first_clash, has_sequence, is_read}
+use Rattle.sequence_parts.specs.SequenceTable.{pairs_of_parts, sequence_table, sequences, sequences_in}
+use Rattle.sequence_parts.specs.SequenceTable.{sequences_of_font}
 
 -- variation sequences are divided as is asked, and no table of them is bad
 abbrev pub SequencesAreDivided : Type 0
@@ -24,7 +25,7 @@ table_among c cmap of_code = sequences_of_font cmap of_code (glyph_count c)
 pub record HasOwnParts (c : Tables) (cmap : List ℕ) (of_code : ℕ → ℕ) : Type 0 where
   pub part :
       (g : ℕ) → sequences.part c (table_among c cmap of_code) g
-      ≡ table_of (part_of (sequence_pairs cmap of_code (glyph_count c)) g)
+      ≡ sequence_table (part_of (sequence_pairs cmap of_code (glyph_count c)) g)
   pub fits : sequences.fits c [] (sequences.part c (table_among c cmap of_code)) ≡ true
 
 abbrev pub FontHasOwnParts : Type 0
@@ -47,12 +48,23 @@ WholeIsOfItsParts =
 abbrev pub AreOf : Tables → List ℕ → (ℕ → List ℕ) → Type 0
 AreOf c t parts = (g : ℕ) → (parts g ≡ []) ⊎ (parts g ≡ sequences.part c t g)
 
+-- each part is that of one of two families
+abbrev pub AreFrom : (ℕ → List ℕ) → (ℕ → List ℕ) → (ℕ → List ℕ) → Type 0
+AreFrom P Q parts = (g : ℕ) → (parts g ≡ P g) ⊎ (parts g ≡ Q g)
+
 -- parts from either of two families of one table fit, and nothing is in two of them: no font has two that clash
 abbrev pub PartsOfOneTableFit : Type 0
 PartsOfOneTableFit =
     (c : Tables) (t : List ℕ) (P Q : ℕ → List ℕ) → AreOf c t P → AreOf c t Q
-    → ((parts : ℕ → List ℕ) → ((g : ℕ) → (parts g ≡ P g) ⊎ (parts g ≡ Q g)) → sequences.fits c [] parts ≡ true)
+    → ((parts : ℕ → List ℕ) → AreFrom P Q parts → sequences.fits c [] parts ≡ true)
     × (first_clash (glyph_count c) P Q ≡ None)
+
+-- parts of two families in which nothing clashes fit, unless there are too many pairs
+abbrev pub FitWithoutClash : Type 0
+FitWithoutClash =
+    (t : Tables) (P Q : ℕ → List ℕ) → first_clash (glyph_count t) P Q ≡ None
+    → length (pairs_of_parts (glyph_count t) (either_part P Q)) ≤ MAX_PAIRS
+    → sequences.fits t [] (either_part P Q) ≡ true
 
 -- the selector and code that is named is in the parts of two glyphs
 abbrev pub ClashIsInTwoParts : Type 0
@@ -72,11 +84,11 @@ TwoPartsDoNotFit =
 abbrev pub TableHasItsGlyphs : Type 0
 TableHasItsGlyphs =
     (n : ℕ) (t : List ℕ) (v c : ℕ) → is_read t ≡ true
-    → glyph_in (pairs_in n t) v c ≡ variant_glyph n 0 (variant_of t v c)
+    → glyph_in (sequences_in n t) v c ≡ variant_glyph n 0 (variant_of t v c)
 
 -- the table of a font gives them the glyph that the font gives
 abbrev pub FontHasItsGlyphs : Type 0
 FontHasItsGlyphs =
     (t : Tables) (cmap : List ℕ) (of_code : ℕ → ℕ) → MapsToGlyphs t of_code → (v c : ℕ)
-    → glyph_in (pairs_in (glyph_count t) (table_among t cmap of_code)) v c
+    → glyph_in (sequences_in (glyph_count t) (table_among t cmap of_code)) v c
     ≡ sequence_of cmap of_code (glyph_count t) v c

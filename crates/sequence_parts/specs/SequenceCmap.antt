@@ -24,26 +24,29 @@ unfoldable pub sequence_front : ℕ → List ℕ
 sequence_front n =
     0x00000003 ∷ 0x00000004 ∷ 28 ∷ 0x00000005 ∷ (44 + 12 * n) ∷ 0x0003000A ∷ 28 ∷ subtable_front n
 
--- `cmap` with the bytes of a table of sequences
-unfoldable pub cmap_with : List Run → List ℕ → List ℕ
-cmap_with runs t = flat_map bytes32 (sequence_front (length runs)) ++ flat_map group_bytes runs ++ t
+-- `cmap` of three records, with bytes behind its groups
+unfoldable pub cmap_of_three : List Run → List ℕ → List ℕ
+cmap_of_three runs t = flat_map bytes32 (sequence_front (length runs)) ++ flat_map group_bytes runs ++ t
 
 -- `cmap` with a table of sequences: without one that of today
-unfoldable pub cmap_of : List Run → List ℕ → List ℕ
-cmap_of runs t = if nat_eq (length t) 0 then cmap_bytes current_writing runs else cmap_with runs t
+unfoldable pub cmap_with_sequences : List Run → List ℕ → List ℕ
+cmap_with_sequences runs t =
+    if nat_eq (length t) 0 then cmap_bytes current_writing runs else cmap_of_three runs t
 
 -- with sequences the third record is chosen, of format 12, and the first leads to the same subtable
 abbrev pub ThirdIsChosen : Type 0
 ThirdIsChosen =
     (runs : List Run) (t : List ℕ) →
-    (chosen_of (cmap_with runs t) ≡ (3, 10, 12)) × (subtable_at (cmap_with runs t) 0 ≡ subtable_at (cmap_with runs t) 2)
+    (chosen_of (cmap_of_three runs t) ≡ (3, 10, 12))
+    × (subtable_at (cmap_of_three runs t) 0 ≡ subtable_at (cmap_of_three runs t) 2)
 
 -- it is accepted and maps by its groups, as a `cmap` without sequences
 pub record MapsByGroups (runs : List Run) (t : List ℕ) : Type 0 where
-  pub accepted : map_fault (cmap_of runs t) ≡ None
-  pub maps : (glyphs : ℕ) → mapping_of (cmap_of runs t) glyphs ≡ clipped glyphs (spelled runs)
+  pub accepted : map_fault (cmap_with_sequences runs t) ≡ None
+  pub maps : (glyphs : ℕ) → mapping_of (cmap_with_sequences runs t) glyphs ≡ clipped glyphs (spelled runs)
   pub same :
-      (glyphs : ℕ) → mapping_of (cmap_of runs t) glyphs ≡ mapping_of (cmap_bytes current_writing runs) glyphs
+      (glyphs : ℕ) → mapping_of (cmap_with_sequences runs t) glyphs
+      ≡ mapping_of (cmap_bytes current_writing runs) glyphs
 
 abbrev pub SequencesChangeNoMap : Type 0
 SequencesChangeNoMap = (runs : List Run) (t : List ℕ) → MapsByGroups runs t
@@ -52,11 +55,11 @@ SequencesChangeNoMap = (runs : List Run) (t : List ℕ) → MapsByGroups runs t
 abbrev pub SequencesAreRead : Type 0
 SequencesAreRead =
     (runs : List Run) (pairs : List Pair) → AreOrdered 0 0 pairs → length pairs ≤ MAX_PAIRS
-    → subtable_of (cmap_with runs (subtable_bytes pairs)) ≡ Some (subtable_bytes pairs)
+    → subtable_of (cmap_of_three runs (subtable_bytes pairs)) ≡ Some (subtable_bytes pairs)
 
 -- the table of parts that fit is that of a font with this `cmap`
 abbrev pub TableIsReadBack : Type 0
 TableIsReadBack =
     (c : Tables) (parts : ℕ → List ℕ) (runs : List Run) (of_code : ℕ → ℕ) → sequences.fits c [] parts ≡ true
-    → sequences_of_font (cmap_of runs (sequences.whole c [] parts)) of_code (glyph_count c)
+    → sequences_of_font (cmap_with_sequences runs (sequences.whole c [] parts)) of_code (glyph_count c)
     ≡ sequences.whole c [] parts

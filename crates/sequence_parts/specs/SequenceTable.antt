@@ -15,25 +15,25 @@ use Rattle.font_theory.specs.Parting.{Parting}
 use Rattle.sequence_parts.specs.OrderedPairs.{first_twice, is_pair_of, merged}
 
 -- the table of pairs in order: none without a pair
-unfoldable pub table_of : List Pair → List ℕ
-table_of [] = []
-table_of (p ∷ ps) = subtable_bytes (p ∷ ps)
+unfoldable pub sequence_table : List Pair → List ℕ
+sequence_table [] = []
+sequence_table (p ∷ ps) = subtable_bytes (p ∷ ps)
 
 -- the table of a font with this `cmap` and its map to n glyphs
 abbrev pub sequences_of_font : List ℕ → (ℕ → ℕ) → ℕ → List ℕ
-sequences_of_font cmap of_code n = table_of (sequence_pairs cmap of_code n)
+sequences_of_font cmap of_code n = sequence_table (sequence_pairs cmap of_code n)
 
 -- a table is a subtable from its start to its end, which is read
 unfoldable pub is_read : List ℕ → Bool
 is_read t = is_whole t && nat_eq (u32_at t 2) (length t) && is_strict t
 
 -- the pairs in a table among n glyphs: default entries say nothing, for they have no glyph of their own
-unfoldable pub pairs_in : ℕ → List ℕ → List Pair
-pairs_in n t = if is_read t then filter_map (pair_of n 0) (entries_of t) else []
+unfoldable pub sequences_in : ℕ → List ℕ → List Pair
+sequences_in n t = if is_read t then filter_map (pair_of n 0) (entries_of t) else []
 
 -- the pairs of a glyph in its part
 abbrev pub pairs_at : ℕ → (ℕ → List ℕ) → ℕ → List Pair
-pairs_at n parts g = part_of (pairs_in n (parts g)) g
+pairs_at n parts g = part_of (sequences_in n (parts g)) g
 
 -- those of some glyphs, in order
 abbrev pub pairs_among : ℕ → (ℕ → List ℕ) → List ℕ → List Pair
@@ -60,8 +60,8 @@ has_sequence n parts v c g = list_any (is_pair_of v c) (pairs_at n parts g)
 unfoldable pub sequences : Parting
 sequences = record {
   frame = λ _ _. [];
-  part = λ c t g. table_of (part_of (pairs_in (glyph_count c) t) g);
-  whole = λ c _ parts. table_of (pairs_of_parts (glyph_count c) parts);
+  part = λ c t g. sequence_table (part_of (sequences_in (glyph_count c) t) g);
+  whole = λ c _ parts. sequence_table (pairs_of_parts (glyph_count c) parts);
   fits = λ c _ parts. have_room (pairs_of_parts (glyph_count c) parts);
 }
 

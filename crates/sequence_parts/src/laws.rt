@@ -1,5 +1,5 @@
 //! Laws of variation sequences as a divided table: the contract of each function is what it says.
-ghost use Rattle.sequence_parts.specs.Laws.{ClashIsInTwoParts, FontHasItsGlyphs, FontHasOwnParts, PartsAreTheTable, PartsOfOneTableFit, SequencesAreDivided, TableHasItsGlyphs, TwoPartsDoNotFit, WholeIsOfItsParts};
+ghost use Rattle.sequence_parts.specs.Laws.{ClashIsInTwoParts, FitWithoutClash, FontHasItsGlyphs, FontHasOwnParts, PartsAreTheTable, PartsOfOneTableFit, SequencesAreDivided, TableHasItsGlyphs, TwoPartsDoNotFit, WholeIsOfItsParts};
 ghost use Rattle.sequence_parts.specs.SequenceCmap.{SequencesAreRead, SequencesChangeNoMap, TableIsReadBack, ThirdIsChosen};
 ghost use Rattle.sequence_parts.specs.WorkedParts.{WorkedPartsAre};
 
@@ -26,6 +26,11 @@ pub fn whole_is_of_its_parts()
 /// Parts from either of two families of one table fit, so no font has two parts that clash.
 pub fn parts_of_one_table_fit()
     ensures { PartsOfOneTableFit }
+{}
+
+/// Parts of two families in which nothing clashes fit, unless there are too many pairs.
+pub fn fit_without_clash()
+    ensures { FitWithoutClash }
 {}
 
 /// The selector and code that a refusal names is in the parts of two glyphs.
