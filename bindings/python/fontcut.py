@@ -630,10 +630,22 @@ def kept_glyphs(font: Union[Bytes, Font], *, kind: str = "full") -> List[int]:
     return out[:_done(answer).size]
 
 
-def _join_hint(file: Bytes) -> str:
-    """What is said where a file that is joined as a full cut is a cut of another kind."""
-    found = form(file).name.lower()
-    return f"; {found} cuts are joined with kind={found!r}" if found in _KINDS else ""
+def _kind_of_cut(file: Bytes) -> str:
+    """The kind of a cut, and no text for a file that is none."""
+    found = form(file)
+    return "" if found is Form.NO_CUT else "full" if found in (Form.CURRENT, Form.OLD) else found.name.lower()
+
+
+def _join_hint(cuts: Sequence[Bytes], at: int) -> str:
+    """What is said where the file at a place is joined as a full cut, and is a cut of another kind: also the kind of
+    another file, if that differs."""
+    other = 0 if at else min(1, len(cuts) - 1)
+    kinds = _kind_of_cut(cuts[at]), _kind_of_cut(cuts[other])
+    if kinds[0] in ("", "full"):
+        return ""
+    if kinds[1] in ("", kinds[0]):
+        return f"; {kinds[0]} cuts are joined with kind={kinds[0]!r}"
+    return f"; it is a {kinds[0]} cut, and file {other + 1} a {kinds[1]} cut: cuts of one kind alone are joined"
 
 
 def join(cuts: Sequence[Bytes], *, kind: Optional[str] = None) -> bytes:
@@ -641,7 +653,7 @@ def join(cuts: Sequence[Bytes], *, kind: Optional[str] = None) -> bytes:
     whatever their order is. Full cuts are joined if no kind is named.
 
     Raises `Refused`, with the index of the file, if one is not a cut, or not a cut of the same font as those before. If
-    no kind is named and it is a cut of another one, the message names that."""
+    no kind is named and it is a cut of another one, the message names that, and that of another file if it differs."""
     files, number = [_File(one) for one in cuts], _kind(kind)
     given = (_Bytes * max(1, len(files)))(*[_Bytes(one.at, one.length) for one in files])
 
@@ -653,7 +665,7 @@ def join(cuts: Sequence[Bytes], *, kind: Optional[str] = None) -> bytes:
     except Refused as refused:
         if kind is not None or refused.number != _NOT_A_CUT or refused.file is None:
             raise
-        hint = _join_hint(cuts[refused.file])
+        hint = _join_hint(cuts, refused.file)
         raise Refused(refused.number, refused.text, refused.argument, refused.file, hint) from None
 
 

@@ -31,6 +31,20 @@ class _Made(NamedTuple):
     numbers: Dict[int, int]
 
 
+def _why_not(paths: Sequence[str], fonts: Sequence[bytes], refused: fontcut.Refused) -> str:
+    """Why files are not joined: one is no cut, or two are cuts of two kinds, or of two fonts."""
+    at = refused.file or 0
+    forms = [fontcut.form(fonts[place]) for place in (0, at)]
+    first, kind = (_KINDS.get(form, "full") for form in forms)
+    if forms[1] is fontcut.Form.NO_CUT:
+        return f"{paths[at]}: it is no cut"
+    if first != kind:
+        option = "" if first == "full" else f" --{first}"
+        return (f"{paths[at]} is a {kind} cut, and {paths[0]} a {first} cut: cuts of one kind alone are joined; fontcut "
+                f"subset{option} makes {first} cuts")
+    return f"{paths[at]}: {refused.text}"
+
+
 def _joined(paths: Sequence[str], fonts: Sequence[bytes]) -> Tuple[str, bytes]:
     """The kind of the cuts in files, and their join. A lean cut may be a full one too."""
     form, refused = fontcut.form(fonts[0]), None
@@ -42,7 +56,7 @@ def _joined(paths: Sequence[str], fonts: Sequence[bytes]) -> Tuple[str, bytes]:
         except fontcut.Refused as refusal:
             refused = refused or refusal
     assert refused is not None
-    raise Refused(f"{paths[refused.file or 0]}: {refused.text}") from refused
+    raise Refused(_why_not(paths, fonts, refused)) from refused
 
 
 def _map_for_all(font: TTFont) -> None:

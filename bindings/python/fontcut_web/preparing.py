@@ -2,6 +2,7 @@
 numbers."""
 from __future__ import annotations
 
+import contextlib
 import io
 import re
 from typing import Any, Dict, Iterable, Iterator, List, Mapping, NamedTuple, Optional, Sequence, Set, Tuple, Union
@@ -97,6 +98,14 @@ def _layout_features(font: TTFont) -> Set[str]:
     """The tags of the features of a font."""
     tables = [font[tag].table for tag in ("GSUB", "GPOS") if tag in font]
     return {record.FeatureTag for table in tables if table.FeatureList for record in table.FeatureList.FeatureRecord}
+
+
+def lacking_features(data: bytes, tags: Iterable[str]) -> List[str]:
+    """Those of some tags that are of no feature of a font. Of one that cannot be read nothing is known."""
+    with contextlib.suppress(*MALFORMED):
+        font = TTFont(io.BytesIO(data), lazy=True)
+        return sorted(set(tags) - _layout_features(font) - ({_KERN} if "kern" in font else set()))
+    return []
 
 
 def _axes(font: TTFont) -> Dict[str, Tuple[float, float, float]]:

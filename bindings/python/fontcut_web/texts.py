@@ -110,9 +110,18 @@ def _lacking(given: argparse.Namespace, source: str, font: fontcut.Font, shown: 
     return lacking
 
 
+def _unknown_features(given: argparse.Namespace, source: str, font: fontcut.Font) -> List[str]:
+    """What is said of features that `--features` turns on and the font does not have."""
+    tags = {tag for one in styles.features_of(given.features or []) for tag, value in one if value}
+    lacking = part("preparing").lacking_features(font.data, tags) if tags else []
+    return [f"{source} has no feature {', '.join(lacking)}"] if lacking else []
+
+
 def _dropped(given: argparse.Namespace, source: str, font: fontcut.Font, cut: Cut, shown: Sequence[Shown]) -> List[str]:
-    """What is said of what the cut drops: of variation sequences, where fontTools is there to know them."""
+    """What is said of words that name nothing, and of what the cut drops: of variation sequences, where fontTools is
+    there to know them."""
     lines = [NO_TEXT] if given.text == "" else []
+    lines += _unknown_features(given, source, font)
     lines += losses.lines(source, font, cut.codes, given.kind, given.named is not None)
     with contextlib.suppress(Missing):
         lines += [f"{page.path}: {line}" for page in shown
