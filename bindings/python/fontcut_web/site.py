@@ -15,7 +15,7 @@ from .inputs import accepted, mapped
 from .sets import codes_of
 from .site_fonts import Base, Run, Wished, bases, programs, sections, wished
 from .site_pages import SitePage, languages_of, modes_of, pages_of
-from .site_report import REPORT, Made, is_ours, lines, report, sheets
+from .site_report import REPORT, Made, check_faces, is_ours, lines, report, sheets
 from .site_settings import FILE, Settings, named, settings_of
 from .site_state import NOTHING, FontState, Place, State, bytes_at, put_text
 from .site_text import SiteFont, views
@@ -89,6 +89,7 @@ def _run(run: Run, settings: Settings, before: State) -> Tuple[str, List[str]]:
     pages = pages_of(settings)
     modes = modes_of(settings, pages)
     found = _bases(run, settings, pages, before)
+    check_faces((page.section, base.face, base.settings.file) for base, its in found for page in its)
     states, checked = sections(run, found, modes)
     every = [one for (base, _), state in zip(found, states) for one in _made(run, base, state)]
     texts = sheets(every, settings.display)

@@ -5,7 +5,7 @@ from __future__ import annotations
 import json
 import os
 import unicodedata
-from typing import Dict, Iterator, List, Mapping, NamedTuple, Sequence, Tuple
+from typing import Dict, Iterable, Iterator, List, Mapping, NamedTuple, Sequence, Tuple
 
 from .common import Refused
 from .faces import Face
@@ -35,14 +35,19 @@ class Made(NamedTuple):
     is_new: bool
 
 
-def _sheet(section: str, made: Sequence[Made], display: str) -> str:
-    """The style sheet of a section. Raises `Refused` where two fonts of it cannot be told apart."""
-    faces: Dict[Face, str] = {}
-    for one in made:
-        other = faces.setdefault(one.face, one.font)
-        if other != one.font:
-            raise Refused(f"{one.font}: it has the family, style, weight and width of {other} on pages of {section}: "
-                          f"{one.face}")
+def check_faces(found: Iterable[Tuple[str, Face, str]]) -> None:
+    """Raises `Refused` where the style sheet of a section could not tell two fonts apart: here are sections, each with
+    the face of a font and its file."""
+    faces: Dict[Tuple[str, Face], str] = {}
+    for section, face, font in found:
+        other = faces.setdefault((section, face), font)
+        if other != font:
+            raise Refused(f"{font}: it has the family, style, weight and width of {other} on pages of {section}: {face}; "
+                          "name another family for it, or other pages")
+
+
+def _sheet(made: Sequence[Made], display: str) -> str:
+    """The style sheet of a section."""
     return style_sheet([Styled(one.face, one.face, [_placed(one)]) for one in made], display, "site")
 
 
@@ -54,7 +59,7 @@ def _placed(one: Made) -> Placed:
 def sheets(made: Sequence[Made], display: str) -> Dict[str, str]:
     """The style sheet of each section, by the name of its file."""
     names = dict.fromkeys(one.section for one in made)
-    return {f"{name}.css": _sheet(name, [one for one in made if one.section == name], display) for name in names}
+    return {f"{name}.css": _sheet([one for one in made if one.section == name], display) for name in names}
 
 
 def is_ours(text: bytes) -> bool:

@@ -6,7 +6,7 @@ import contextlib
 import json
 import os
 import sys
-from typing import Dict, List, NamedTuple, Sequence, Set, Tuple
+from typing import Dict, Iterable, List, NamedTuple, Sequence, Set, Tuple
 
 import fontcut
 from fontcut_output import Progress, print_line, write
@@ -201,8 +201,23 @@ def _report(given: argparse.Namespace, length: int, cut: Cut, lacking: List[int]
                                "notices": notices, **cut.report, **sheet}, indent=2))
     elif not given.quiet:
         print_line(_said(given, source, out, length, cut))
-        for line in [*cut.warnings, *notices]:
-            print(f"fontcut-web: {line}", file=sys.stderr)
+        _say([*cut.warnings, *notices])
+
+
+def _say(lines: Iterable[str]) -> None:
+    for line in lines:
+        print(f"fontcut-web: {line}", file=sys.stderr)
+
+
+def _check_drawn(given: argparse.Namespace, every: Sequence[object], notices: Iterable[str]) -> None:
+    """Raises `Refused` where a page is drawn otherwise by the cut, after what is said of the cut, which may be why."""
+    try:
+        part("drawn").check(every)
+    except Refused as refusal:
+        _say(() if given.quiet else notices)
+        if given.kind in SHAPED:
+            raise
+        raise Refused(f"{refusal}; a {given.kind} cut has no kerning and no ligatures: take --layout") from refusal
 
 
 def run(given: argparse.Namespace) -> None:
@@ -224,9 +239,11 @@ def run(given: argparse.Namespace) -> None:
     cut = _made(given, font, source, shown)
     with refusing(source):
         data = part("woff").packed(cut.data) if out.lower().endswith(".woff2") else cut.data
+    notices = _dropped(given, source, font, cut, shown)
     if given.check:
         drawn = part("drawn")
-        drawn.check([drawn.Drawn(path, font.data, data, drawn.is_still(page)) for path, page in zip(paths, read)])
+        every = [drawn.Drawn(path, font.data, data, drawn.is_still(page)) for path, page in zip(paths, read)]
+        _check_drawn(given, every, [*cut.warnings, *notices])
     write(out, data)
     sheet = _write_sheet(given, font, source, cut.codes) if given.css else {}
-    _report(given, len(data), cut, lacking, _dropped(given, source, font, cut, shown), sheet)
+    _report(given, len(data), cut, lacking, notices, sheet)
