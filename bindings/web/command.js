@@ -7,6 +7,7 @@ import { basename, dirname, join as pathOf, resolve } from 'node:path';
 import { parseArgs } from 'node:util';
 import { belongs, check, codes, cuts, cutForm, FontcutError, glyphs, init, initTexts, join, metrics, needed, ranges,
     subset, version } from './fontcut.js';
+import { linesOfJoin } from './joined.js';
 import { KINDS, LAYOUT_TABLES, NO_GLYPH, NO_MEMORY, SHAPED, charactersOf, codesIn, kindWhere, rangeWord, shared }
     from './kinds.js';
 import { formatOf, lossesOf, recordsOf } from './losses.js';
@@ -224,16 +225,15 @@ const shownName = (path) => path === '-' ? 'standard input'
 // What is said of options and files that name nothing, as where a variable of a shell is empty.
 function* emptyOf(given, texts, lists) {
     const empty = [...texts.filter((one) => !(one.isFile ? withoutControls(one.text) : one.text)),
-        ...lists.filter((one) => !one.ranges.length)];
-    for (const { option } of empty) {
-        yield option.startsWith('--') ? `${option} is empty: it names no character`
-            : `${shownName(option)} names no character`;
-    }
+        ...lists.filter((one) => !one.ranges.length)].map((one) => one.option);
+    const isOption = (option) => option.startsWith('--');
+    yield* empty.filter(isOption).map((option) => `${option} is empty: it names no character`);
     for (const list of given.gids ?? []) {
         if (!gidsOf([list]).length) {
             yield '--gids is empty: it names no glyph';
         }
     }
+    yield* empty.filter((option) => !isOption(option)).map((path) => `${shownName(path)} names no character`);
 }
 
 // Runs work with the font at a path. Of one that is refused it is said what the file is.
@@ -403,12 +403,25 @@ function runJoin(given, words) {
         throw new Failed(2, `${out} would be replaced by one file: write join -o ${out} ${files[0]}`);
     }
     checkName(given, out);
-    const isNamed = KINDS.some((kind) => given[kind]), kind = kindOf(given), parts = files.map(read);
+    const kind = kindOf(given), parts = files.map(read);
     const first = files.findIndex(isFile);
     if (first >= 0 && standsApart(given, out, files)) {
         keepFont(given, out, files[first], parts[first], 'name another OUT');
     }
-    writeFont(out, join(parts, isNamed ? { kind } : {}));
+    writeFont(out, joinOf(given, kind, files, parts));
+}
+
+// The join of files. Of those that are not joined it is said of which kinds they are.
+function joinOf(given, kind, paths, files) {
+    try {
+        return join(files, { kind });
+    } catch (error) {
+        if (!(error instanceof FontcutError) || error.number === NO_MEMORY || given.quiet) {
+            throw error;
+        }
+        const [, line] = told(error);
+        throw new Failed(1, [line, ...linesOfJoin(kind, paths.map(shownName), files, error)].join('\nfontcut: '));
+    }
 }
 
 function runBelongs(given, words) {
@@ -523,8 +536,7 @@ async function statusOf(line) {
 function told(error) {
     if (error instanceof FontcutError) {
         const file = error.file === undefined ? '' : `file ${error.file + 1}: `;
-        const more = error.kind ? `\nfontcut: ${error.kind} cuts are joined by join --${error.kind}` : '';
-        return [1, `${file}refused ${error.number} ${error.text}${more}`];
+        return [1, `${file}refused ${error.number} ${error.text}`];
     }
     if (error instanceof Failed) {
         return [error.status, error.message];

@@ -68,6 +68,8 @@ export class FontcutError extends Error {
     readonly file?: number;
     /** The kind of which that file is a cut, if it was joined without a kind. */
     readonly kind?: Kind;
+    /** Another file of that join, and the kind of which it is a cut, if these differ. */
+    readonly other?: { file: number; kind: Kind };
 }
 
 /** A font that stays in the module's memory and is tested once. */

@@ -273,14 +273,22 @@ export function keptGlyphs(font, options) {
     }).buffer);
 }
 
-// The error for a file that is joined as a full cut, with the kind of which it is a cut.
+// The kind of a file that is a cut, or undefined: the first of those that are not full.
+const kindOfCut = (file) => kindWhere((kind) => cutForm(file, { kind }) !== 'none', [...KINDS.slice(1), KINDS[0]]);
+
+// The error for a file that is joined as a full cut, with the kind of which it is a cut, and that of another file.
 function withKind(error, files) {
     const { number, text, argument, file } = error;
     if (!(error instanceof FontcutError) || number !== NOT_A_CUT || file === undefined) {
         return error;
     }
-    const found = kindWhere((kind) => cutForm(files[file], { kind }) !== 'none', KINDS.slice(1));
-    return new FontcutError(number, text, argument, file, found);
+    const at = file > 0 ? 0 : Math.min(1, files.length - 1);
+    const [kind, its] = [file, at].map((one) => kindOfCut(files[one]));
+    if (kind === undefined || kind === KINDS[0]) {
+        return error;
+    }
+    const other = its === undefined || its === kind ? undefined : { file: at, kind: its };
+    return new FontcutError(number, text, argument, file, kind, other);
 }
 
 /**

@@ -18,18 +18,21 @@ export const OF_TAGS = [5, 6, 7, 21, 29], OF_NUMBERS = [12, 15, 17, 22, 23, NO_G
 /**
  * A font or a list of cuts is refused, or out of memory: `number` and `text` are those that `fontcut` prints, but for a
  * number that is no glyph of the font, which is named by its place in the list. `kind` is the one of which a file is a
- * cut that is joined without a kind.
+ * cut that is joined without a kind, and `other` is another file of the join and its kind, if that differs.
  */
 export class FontcutError extends Error {
-    constructor(number, text, argument, file, kind) {
+    constructor(number, text, argument, file, kind, other) {
         const which = file === undefined ? '' : `file ${file + 1}: `;
-        super(which + text + (kind ? `; ${kind} cuts are joined with kind: '${kind}'` : ''));
+        const differs = other && `; it is a ${kind} cut, and file ${other.file + 1} a ${other.kind} cut: `
+            + 'cuts of one kind alone are joined';
+        super(which + text + (differs ?? (kind ? `; ${kind} cuts are joined with kind: '${kind}'` : '')));
         this.name = 'FontcutError';
         this.number = number;
         this.text = text;
         this.argument = argument;
         this.file = file;
         this.kind = kind;
+        this.other = other;
     }
 }
 

@@ -9,7 +9,7 @@ from typing import List, Mapping, Sequence, Set, Tuple
 import fontcut
 from fontcut_output import Progress, print_line
 
-from . import site_example
+from . import preparing, site_example
 from .common import Refused, UsageError, need
 from .inputs import accepted, mapped
 from .sets import codes_of
@@ -37,6 +37,13 @@ def _names(settings: Settings) -> List[str]:
     return found
 
 
+def _lacking_features(font: SiteFont) -> List[str]:
+    """What is said of features that the settings of a font name and the font does not have."""
+    named = set(preparing.features_of(font.settings.features) or []) - set(preparing.default_features())
+    lacking = preparing.lacking_features(font.whole.data, named)
+    return [f"{font.settings.file} has no feature {', '.join(lacking)}"] if lacking else []
+
+
 def _bases(run: Run, settings: Settings, pages: Sequence[SitePage], before: State) -> List[Tuple[Base, List[SitePage]]]:
     """The fonts that are prepared, each with its pages, which have characters of it."""
     names, languages = [page.name for page in pages], languages_of(settings, pages)
@@ -46,6 +53,7 @@ def _bases(run: Run, settings: Settings, pages: Sequence[SitePage], before: Stat
     run.said.extend(seen.said)
     every: List[Wished] = []
     for number, (font, its) in enumerate(zip(fonts, seen.pages), 1):
+        run.said.extend(_lacking_features(font))
         wishes = wished(font.settings, font.name, font.whole, its, languages, before)
         if not wishes and not any(page.name in font.pages and mapped(font.whole, page.letters) for page in pages):
             raise Refused(f"{font.settings.file}: it maps no character of its pages")

@@ -4,4 +4,5 @@ pub(crate) mod dropped_tables;
 pub(crate) mod glyph_numbers;
 pub(crate) mod presets;
 pub(crate) mod slice_list;
+pub(crate) mod unnamed;
 pub(crate) mod words;

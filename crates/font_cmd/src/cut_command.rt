@@ -25,6 +25,13 @@ use std::io::{Read, Write};
 use streams::Inlet;
 use wanted_characters::is_range_word;
 
+// What a line keeps beside codes: the numbers of glyphs; and what is said of its options and files that name nothing.
+#[derive(Drop)]
+struct Chosen {
+    numbers: Vec<u16>,
+    said: String,
+}
+
 // Returns what a line asks of a font, by the codes and the numbers of glyphs that it keeps.
 fn request_of<'w>(
     kind: Kind,
@@ -124,6 +131,7 @@ fn said_of_cut<F: HeldFiles, I, O>(
     line: &Subset<'_>,
     font: &Font<'_>,
     wanted: &WantedCodes,
+    chosen: &Chosen,
 ) -> Result<String, AllocError> {
     if line.verbosity == Verbosity::Quiet {
         return Ok(String::new(system.alloc));
@@ -137,7 +145,9 @@ fn said_of_cut<F: HeldFiles, I, O>(
         has_numbers: names_glyphs(line),
         says_more: line.verbosity == Verbosity::Verbose,
     };
-    let mut said = losses(system.alloc, font, asked)?;
+    let mut said = String::from_str(system.alloc, chosen.said.as_str())?;
+    let lost = losses(system.alloc, font, asked)?;
+    said.push_str(lost.as_str())?;
     note_paths_as_texts(system.files, &mut said, line)?;
     Ok(said)
 }
@@ -149,10 +159,10 @@ fn cut_and_say<'a, F: HeldFiles, I, O: Write + Copy + Drop>(
     line: &Subset<'a>,
     font: &Font<'_>,
     wanted: &WantedCodes,
-    numbers: &[u16],
+    chosen: &Chosen,
 ) -> Result<Outcome, CommandError<'a>> {
-    let said = said_of_cut(system, kind, line, font, wanted)?;
-    send_cut(system, kind, line, font, wanted, numbers)?;
+    let said = said_of_cut(system, kind, line, font, wanted, chosen)?;
+    send_cut(system, kind, line, font, wanted, &chosen.numbers)?;
     Ok(Outcome::noting(true, said))
 }
 
@@ -169,7 +179,7 @@ fn cut_counted<'a, F: HeldFiles, I, O: Write + Copy + Drop>(
     line: &Subset<'a>,
     font: &Font<'_>,
     kept: Kept,
-    numbers: &[u16],
+    chosen: &Chosen,
 ) -> Result<Outcome, CommandError<'a>> {
     let shows_characters = line.verbosity == Verbosity::Verbose;
     let mut coverage = Coverage::of(system.alloc, font, &kept, kind, shows_characters)?;
@@ -180,9 +190,9 @@ fn cut_counted<'a, F: HeldFiles, I, O: Write + Copy + Drop>(
         return Ok(Outcome::saying(false, text));
     }
     if !line.reports {
-        return cut_and_say(system, kind, line, font, &wanted, numbers);
+        return cut_and_say(system, kind, line, font, &wanted, chosen);
     }
-    cut_and_report(system, kind, line, font, &wanted, numbers, coverage)
+    cut_and_report(system, kind, line, font, &wanted, &chosen.numbers, coverage)
 }
 
 // Cuts a font, whose file this is, for the codes that are kept and for glyphs, as a line asks for it.
@@ -192,14 +202,14 @@ fn cut_file<'a, F: HeldFiles, I, O: Write + Copy + Drop>(
     line: &Subset<'a>,
     file: &[u8],
     kept: Kept,
-    numbers: &[u16],
+    chosen: &Chosen,
 ) -> Result<Outcome, CommandError<'a>> {
     let font = font_in(line.font, file)?;
     if line.reports || line.is_strict {
-        return cut_counted(system, kind, line, &font, kept, numbers);
+        return cut_counted(system, kind, line, &font, kept, chosen);
     }
     let wanted = kept.into_wanted(system.alloc)?;
-    cut_and_say(system, kind, line, &font, &wanted, numbers)
+    cut_and_say(system, kind, line, &font, &wanted, chosen)
 }
 
 // Looks at the OUT of a line, and at whether it names a set of characters or glyphs that cuts of its kind can have.
@@ -217,16 +227,16 @@ fn check_line<'a>(kind: Kind, line: &Subset<'a>) -> Result<(), CommandError<'a>>
     Ok(())
 }
 
-// Returns the codes and the numbers of glyphs that a line keeps, with those of its files.
+// Returns what a line keeps, with what its files name.
 fn all_kept<'a, F: HeldFiles, I: Read + Copy + Drop, O>(
     system: &System<'a, F, I, O>,
     line: &Subset<'a>,
     mut choice: Choice,
-) -> Result<(Kept, Vec<u16>), CommandError<'a>> {
+) -> Result<(Kept, Chosen), CommandError<'a>> {
     add_all_files(system, line, &mut choice)?;
-    let (kept, glyphs) = choice.left(system.alloc)?;
+    let (kept, glyphs, said) = choice.left(system.alloc)?;
     let numbers = listed(system.alloc, &glyphs)?;
-    Ok((kept, numbers))
+    Ok((kept, Chosen { numbers, said }))
 }
 
 // Reads a font into memory, without the tables that a line drops.
@@ -256,7 +266,7 @@ pub(crate) fn subset<'a, F: HeldFiles, I: Read + Copy + Drop, O: Write + Copy + 
     check_line(kind, line)?;
     let choice = Choice::of(system.alloc, line)?;
     let mut inlet = inlet_at(system, line.font)?;
-    let (kept, numbers) = all_kept(system, line, choice)?;
+    let (kept, chosen) = all_kept(system, line, choice)?;
     let file = held_file(system, kind, line, &mut inlet)?;
-    cut_file(system, kind, line, &file, kept, &numbers)
+    cut_file(system, kind, line, &file, kept, &chosen)
 }

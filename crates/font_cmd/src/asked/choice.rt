@@ -1,6 +1,7 @@
 //! The codes that a line of `subset` keeps: those of its words, lists, texts and files, and what texts need; and the
 //! glyphs that it keeps by their numbers.
 use crate::asked::glyph_numbers::{listed_glyphs, names_glyphs};
+use crate::asked::unnamed::{add_empty_files, said_of_options};
 use crate::asked::words::{add_files, add_lists, add_text_files, characters_of, codes_of};
 use crate::messages::command_error::CommandError;
 use crate::paths::inputs::sources;
@@ -11,11 +12,13 @@ use std::alloc::{AllocError, Global};
 use std::io::Read;
 use wanted_characters::{CodeSet, FileKind, add_all_parts, add_texts};
 
-/// The codes that a line keeps, those that it takes away from them, and the numbers of glyphs that it keeps.
+/// The codes that a line keeps, those that it takes away from them, and the numbers of glyphs that it keeps; and what is
+/// said of its options and files that name nothing.
 pub(crate) struct Choice {
     kept: Kept,
     gone: CodeSet,
     glyphs: CodeSet,
+    said: String,
 }
 
 impl Drop for Choice {
@@ -24,6 +27,7 @@ impl Drop for Choice {
             kept: _kept,
             gone: _gone,
             glyphs: _glyphs,
+            said: _said,
         } = self;
     }
 }
@@ -71,41 +75,54 @@ impl Choice {
         let mut gone = CodeSet::new(alloc);
         add_lists(alloc, &mut gone, &line.excluded)?;
         let glyphs = listed_glyphs(alloc, line)?;
-        Ok(Choice { kept, gone, glyphs })
+        let said = said_of_options(alloc, line)?;
+        Ok(Choice {
+            kept,
+            gone,
+            glyphs,
+            said,
+        })
     }
 
-    /// Returns the codes that are left, and the numbers of glyphs.
+    /// Returns the codes that are left, the numbers of glyphs, and what is said.
     ///
     /// # Errors
     /// `AllocError` if out of memory.
-    pub(crate) fn left(self, alloc: Global) -> Result<(Kept, CodeSet), AllocError> {
-        let Choice { kept, gone, glyphs } = self;
+    pub(crate) fn left(self, alloc: Global) -> Result<(Kept, CodeSet, String), AllocError> {
+        let Choice {
+            kept,
+            gone,
+            glyphs,
+            said,
+        } = self;
         if gone.is_empty() {
-            return Ok((kept, glyphs));
+            return Ok((kept, glyphs, said));
         }
         let left = Kept {
             wanted: kept.wanted.without(alloc, &gone)?,
             texts: kept.texts.without(alloc, &gone)?,
             added: kept.added.without(alloc, &gone)?,
         };
-        Ok((left, glyphs))
+        Ok((left, glyphs, said))
     }
 }
 
-// Adds the characters of the files of texts, and with them what the texts need where that is kept.
+// Adds the characters of the files of texts, and with them what the texts need where that is kept. Returns the paths of
+// those without a character.
 fn add_texts_of_files<'a, R: Read + Drop>(
     alloc: Global,
     line: &Subset<'a>,
     files: Vec<R>,
     kept: &mut Kept,
-) -> Result<(), CommandError<'a>> {
+) -> Result<Vec<&'a str>, CommandError<'a>> {
     let (paths, texts) = (&line.text_files, &mut kept.texts);
-    if keeps_needed(line) {
-        add_text_files(alloc, files, paths, texts, &mut kept.added)?;
+    let empty = if keeps_needed(line) {
+        add_text_files(alloc, files, paths, texts, &mut kept.added)?
     } else {
-        add_files(alloc, files, paths, FileKind::Characters, texts)?;
-    }
-    Ok(kept.wanted.add_all(alloc, &kept.texts)?)
+        add_files(alloc, files, paths, FileKind::Characters, texts)?
+    };
+    kept.wanted.add_all(alloc, &kept.texts)?;
+    Ok(empty)
 }
 
 // The files that a line names, none of which is read yet.
@@ -142,13 +159,17 @@ impl<R: Read + Drop> Opened<R> {
             excluded,
             glyphs,
         } = self;
-        add_texts_of_files(alloc, line, texts, &mut choice.kept)?;
+        let empty = add_texts_of_files(alloc, line, texts, &mut choice.kept)?;
+        add_empty_files(&mut choice.said, &empty, FileKind::Characters)?;
         let (paths, wanted) = (&line.code_files, &mut choice.kept.wanted);
-        add_files(alloc, words, paths, FileKind::Words, wanted)?;
+        let empty = add_files(alloc, words, paths, FileKind::Words, wanted)?;
+        add_empty_files(&mut choice.said, &empty, FileKind::Words)?;
         let paths = &line.excluded_files;
-        add_files(alloc, excluded, paths, FileKind::Words, &mut choice.gone)?;
+        // That nothing is taken away is no mistake.
+        let _empty = add_files(alloc, excluded, paths, FileKind::Words, &mut choice.gone)?;
         let (paths, numbers) = (&line.glyph_files, &mut choice.glyphs);
-        add_files(alloc, glyphs, paths, FileKind::Numbers, numbers)
+        let empty = add_files(alloc, glyphs, paths, FileKind::Numbers, numbers)?;
+        Ok(add_empty_files(&mut choice.said, &empty, FileKind::Numbers)?)
     }
 }
 

@@ -107,7 +107,40 @@ fn error_at<'a>(path: &'a str, kind: FileKind, error: FileFault) -> CommandError
     }
 }
 
-/// Adds the codes that files list, whose paths these are, or the glyph numbers.
+// Adds the path of a file to those of files that name nothing, if it names none.
+fn add_if_empty<'a>(
+    empty: &mut Vec<&'a str>,
+    path: &'a str,
+    names_any: bool,
+) -> Result<(), AllocError> {
+    if !names_any {
+        empty.push(path)?;
+    }
+    Ok(())
+}
+
+// Adds the codes that one file has named, and returns whether there are any.
+fn add_own(alloc: Global, codes: &mut CodeSet, own: &CodeSet) -> Result<bool, FileFault> {
+    match codes.add_all(alloc, own) {
+        Ok(()) => Ok(!own.is_empty()),
+        Err(_) => Err(FileFault::NoMemory),
+    }
+}
+
+// Adds the codes that a file lists, or the glyph numbers, and returns whether there are any.
+fn add_file<R: Read>(
+    alloc: Global,
+    file: &mut R,
+    kind: FileKind,
+    codes: &mut CodeSet,
+) -> Result<bool, FileFault> {
+    let mut own = CodeSet::new(alloc);
+    add_listed(alloc, file, kind, &mut own)?;
+    add_own(alloc, codes, &own)
+}
+
+/// Adds the codes that files list, whose paths these are, or the glyph numbers, and returns the paths of those that list
+/// none.
 ///
 /// # Errors
 /// `Unread` with the first path whose file cannot be read, `BadLine` or `BadNumber` with the first line that is not as
@@ -118,16 +151,31 @@ pub(crate) fn add_files<'a, R: Read + Drop>(
     paths: &[&'a str],
     kind: FileKind,
     codes: &mut CodeSet,
-) -> Result<(), CommandError<'a>> {
+) -> Result<Vec<&'a str>, CommandError<'a>> {
+    let mut empty = Vec::new(alloc);
     for (mut file, &path) in files.into_iter().zip(paths) {
-        if let Err(error) = add_listed(alloc, &mut file, kind, codes) {
-            return Err(error_at(path, kind, error));
+        match add_file(alloc, &mut file, kind, codes) {
+            Ok(names_any) => add_if_empty(&mut empty, path, names_any)?,
+            Err(error) => return Err(error_at(path, kind, error)),
         }
     }
-    Ok(())
+    Ok(empty)
 }
 
-/// Adds the characters of the texts in files, whose paths these are, and to another set what the texts need.
+// Adds the characters of the text in a file, and what the text needs, and returns whether it has a character.
+fn add_text_file<R: Read>(
+    alloc: Global,
+    file: &mut R,
+    codes: &mut CodeSet,
+    added: &mut CodeSet,
+) -> Result<bool, FileFault> {
+    let mut own = CodeSet::new(alloc);
+    add_text_and_needs(alloc, file, &mut own, added)?;
+    add_own(alloc, codes, &own)
+}
+
+/// Adds the characters of the texts in files, whose paths these are, and to another set what the texts need. Returns the
+/// paths of those that have no character.
 ///
 /// # Errors
 /// Those of `add_files`.
@@ -137,11 +185,13 @@ pub(crate) fn add_text_files<'a, R: Read + Drop>(
     paths: &[&'a str],
     codes: &mut CodeSet,
     added: &mut CodeSet,
-) -> Result<(), CommandError<'a>> {
+) -> Result<Vec<&'a str>, CommandError<'a>> {
+    let mut empty = Vec::new(alloc);
     for (mut file, &path) in files.into_iter().zip(paths) {
-        if let Err(error) = add_text_and_needs(alloc, &mut file, codes, added) {
-            return Err(error_at(path, FileKind::Characters, error));
+        match add_text_file(alloc, &mut file, codes, added) {
+            Ok(names_any) => add_if_empty(&mut empty, path, names_any)?,
+            Err(error) => return Err(error_at(path, FileKind::Characters, error)),
         }
     }
-    Ok(())
+    Ok(empty)
 }

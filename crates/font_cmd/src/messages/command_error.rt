@@ -111,10 +111,12 @@ pub(crate) enum CommandError<'a> {
         first: &'a str,
         error: RunError,
     },
-    /// The file at this path is refused, for it is no cut of a kind, which is not that of full cuts.
+    /// The file at this path is refused, for it is no cut of a kind. Another file of the join is at `other`, or it alone
+    /// is joined.
     NotOfKind {
         kind: Kind,
         path: &'a str,
+        other: &'a str,
         error: RunError,
     },
 }
@@ -173,18 +175,32 @@ impl<'a> CommandError<'a> {
     }
 }
 
-// Returns why files at some paths are not joined, where a step is refused, and the path of the file of that step.
-fn refused_step<'e, 'a>(
-    error: &'e RunError,
-    paths: &[&'a str],
-) -> Option<(&'e JoinError, &'a str)> {
-    match error {
-        RunError::Join(JoinAllError::At { step, error }) => match paths.get(*step) {
-            Some(&path) => Some((error, path)),
-            None => None,
-        },
-        _ => None,
-    }
+// Why files are not joined, and the paths of two of them.
+#[derive(Clone, Copy)]
+struct Step<'e, 'a> {
+    error: &'e JoinError,
+    // The path of the file of the refused step.
+    path: &'a str,
+    // That of the first file, or of the second where the first is refused, if there is one.
+    other: &'a str,
+}
+
+// Returns why files at some paths are not joined, where a step is refused.
+fn refused_step<'e, 'a>(error: &'e RunError, paths: &[&'a str]) -> Option<Step<'e, 'a>> {
+    let RunError::Join(JoinAllError::At { step, error }) = error else {
+        return None;
+    };
+    let path = paths.get(*step).copied()?;
+    let other = if *step == 0 {
+        paths.get(1)
+    } else {
+        paths.first()
+    };
+    Some(Step {
+        error,
+        path,
+        other: other.copied().unwrap_or(path),
+    })
 }
 
 // Returns whether a refusal of a join says that the files are cuts of different fonts.
@@ -200,16 +216,17 @@ fn is_difference(error: &JoinError) -> bool {
 
 /// Returns why the files at some paths are not joined as cuts of a kind.
 pub(crate) fn refused_join<'a>(kind: Kind, paths: &[&'a str], error: RunError) -> CommandError<'a> {
-    let (is_cut, differs, path) = match refused_step(&error, paths) {
-        Some((refusal, path)) => (
-            !matches!(refusal, JoinError::NotACut(_)),
-            is_difference(refusal),
-            path,
+    let (is_cut, differs, path, other) = match refused_step(&error, paths) {
+        Some(step) => (
+            !matches!(step.error, JoinError::NotACut(_)),
+            is_difference(step.error),
+            step.path,
+            step.other,
         ),
         None => return CommandError::Refused(error),
     };
-    let first = paths.first().copied().unwrap_or(path);
     if differs {
+        let first = paths.first().copied().unwrap_or(path);
         return CommandError::NotJoined {
             kind,
             path,
@@ -217,8 +234,13 @@ pub(crate) fn refused_join<'a>(kind: Kind, paths: &[&'a str], error: RunError) -
             error,
         };
     }
-    if kind != Kind::Full && !is_cut {
-        return CommandError::NotOfKind { kind, path, error };
+    if !is_cut {
+        return CommandError::NotOfKind {
+            kind,
+            path,
+            other,
+            error,
+        };
     }
     CommandError::RefusedFile { path, error }
 }

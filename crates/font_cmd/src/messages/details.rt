@@ -47,8 +47,15 @@ const FORCE: &str = "fontcut: --force writes the TrueType file under this name\n
 // That a full cut cannot be made of a lean one.
 const MADE_FULL: &str = "fontcut: a lean cut cannot be made full again: cut the font anew\n";
 
+// How layout cuts are joined.
+const LAYOUT_JOIN: &str = "fontcut: layout cuts are joined by join --layout\n";
+
 // How lean cuts are joined.
 const LEAN_JOIN: &str = "fontcut: lean cuts are joined by join --lean\n";
+
+// How a lean cut is made in place of a layout or a variable one.
+const MADE_LEAN: &str =
+    "fontcut: lean cuts alone are joined by join --lean: cut the font anew by subset --lean\n";
 
 // How a layout cut is made in place of another one.
 const MADE_LAYOUT: &str =
@@ -192,6 +199,21 @@ fn add_kinds(
     text.push_str(MADE_FULL)
 }
 
+// Adds of which two kinds the refused and another file of a join are, and what to do.
+fn add_two_kinds(
+    text: &mut String,
+    refused: (&str, Kind),
+    other: (&str, Kind),
+) -> Result<(), AllocError> {
+    let advice = match (refused.1, other.1) {
+        (Kind::Variable, _) | (_, Kind::Variable) => MADE_VARIABLE,
+        (Kind::Layout, _) | (_, Kind::Layout) => MADE_LAYOUT,
+        _ => return add_kinds(text, refused, other),
+    };
+    add_cuts(text, refused, other)?;
+    text.push_str(advice)
+}
+
 // Adds that two files are cuts of different fonts, or perhaps of different kinds where these are not known.
 fn add_no_cut(
     text: &mut String,
@@ -209,6 +231,17 @@ fn add_no_cut(
     } else {
         ", or one of them is a lean cut\n"
     })
+}
+
+// Returns whether the first and the refused file of a join are known to be cuts of two kinds.
+fn are_of_two_kinds(seen: Seen) -> bool {
+    match seen {
+        Seen::Cuts {
+            first: Some(first),
+            refused: Some(refused),
+        } => first != refused,
+        _ => false,
+    }
 }
 
 // Returns whether the fonts of two files differ in a table in which one font may differ that was prepared, or cut, in two
@@ -280,15 +313,25 @@ fn add_no_form(
     }
 }
 
-// Adds what a file is that is no full cut. Its line has been begun.
-fn add_no_full(text: &mut String, form: Option<FileForm>) -> Result<(), AllocError> {
-    match form {
-        Some(FileForm::Cut(kind)) if kind != Kind::Full => {
-            let (cut, name) = (cut_name(kind), kind_name(kind));
-            write!(text, "{cut}; {name} cuts are joined by join --{name}\n")?;
+// Adds what the cut at a path is that is joined as a full one, beside a file of perhaps another kind.
+fn add_no_full(
+    text: &mut String,
+    refused: (&str, Kind),
+    other: (&str, Option<Kind>),
+) -> Result<(), AllocError> {
+    let (path, kind) = refused;
+    match other.1 {
+        Some(other_kind) if other_kind != kind => {
+            add_two_kinds(text, refused, (other.0, other_kind))
+        }
+        _ => {
+            let (path, cut, name) = (Shown(input_name(path)), cut_name(kind), kind_name(kind));
+            write!(
+                text,
+                "fontcut: {path}: {cut}; {name} cuts are joined by join --{name}\n"
+            )?;
             Ok(())
         }
-        _ => add_no_form(text, form, NO_CUT),
     }
 }
 
@@ -297,49 +340,80 @@ fn add_refused(text: &mut String, path: &str, seen: Seen) -> Result<(), AllocErr
     let path = Shown(input_name(path));
     match seen {
         Seen::What(what) => write!(text, "fontcut: {path}: {what}\n")?,
-        Seen::Form(form) => {
-            write!(text, "fontcut: {path}: ")?;
-            add_no_full(text, form)?;
-        }
         _ => write!(text, "fontcut: {path} is refused\n")?,
     }
     Ok(())
 }
 
-// Adds how a cut of a kind is made of the cut of another one at a path, or in its place.
-fn add_made(text: &mut String, joined: Kind, path: &str, kind: Kind) -> Result<(), AllocError> {
+// Adds how the layout or variable cut that is joined as a lean one, beside a file of this kind, is joined or made lean.
+fn add_no_lean(text: &mut String, kind: Kind, other: Option<Kind>) -> Result<(), AllocError> {
+    if other != Some(kind) {
+        return text.push_str(MADE_LEAN);
+    }
+    text.push_str(match kind {
+        Kind::Variable => VARIABLE_JOIN,
+        _ => LAYOUT_JOIN,
+    })
+}
+
+// Adds how a cut of a kind is made of the cut of another one at a path, or in its place, beside a file of a kind.
+fn add_made(
+    text: &mut String,
+    joined: Kind,
+    refused: (&str, Kind),
+    other: Option<Kind>,
+) -> Result<(), AllocError> {
+    let (path, kind) = refused;
     match (joined, kind) {
         (Kind::Lean, Kind::Full) => {
             add_made_lean(text, path)?;
             text.push_str(MADE_FULL)
         }
-        (Kind::Lean, _) => Ok(()),
+        (Kind::Lean, _) => add_no_lean(text, kind, other),
         _ => text.push_str(made_in_place(joined, kind)),
     }
 }
 
-// Adds what a file is that is no cut of a kind other than that of full cuts, and how one is made.
+// Adds of which kind the cut at a path is that is joined as one of another, and what to do.
+fn add_other_kind(
+    text: &mut String,
+    joined: Kind,
+    refused: (&str, Kind),
+    other: (&str, Option<Kind>),
+) -> Result<(), AllocError> {
+    if joined == Kind::Full {
+        return add_no_full(text, refused, other);
+    }
+    let (path, kind) = refused;
+    let (name, cut, wanted) = (Shown(input_name(path)), cut_name(kind), kind_name(joined));
+    write!(text, "fontcut: {name}: {cut}, and no {wanted} one\n")?;
+    add_made(text, joined, refused, other.1)
+}
+
+// Adds what a file is that is no cut of a kind, and how one is made. Another file of the join is at `other`.
 fn add_not_of_kind(
     text: &mut String,
     joined: Kind,
     path: &str,
+    other: &str,
     seen: Seen,
 ) -> Result<(), AllocError> {
-    let (name, wanted) = (Shown(input_name(path)), kind_name(joined));
-    let form = match seen {
-        Seen::Form(form) => form,
-        _ => None,
+    let (form, other_kind) = match seen {
+        Seen::Form { form, other } => (form, other),
+        _ => (None, None),
     };
-    write!(text, "fontcut: {name}: ")?;
     if let Some(FileForm::Cut(kind)) = form {
-        let cut = cut_name(kind);
-        write!(text, "{cut}, and no {wanted} one\n")?;
-        return add_made(text, joined, path, kind);
+        if kind != joined {
+            return add_other_kind(text, joined, (path, kind), (other, other_kind));
+        }
     }
+    let name = Shown(input_name(path));
+    write!(text, "fontcut: {name}: ")?;
     let otherwise = match joined {
+        Kind::Full => NO_CUT,
+        Kind::Lean => "no lean cut\n",
         Kind::Layout => "no layout cut\n",
         Kind::Variable => "no variable cut\n",
-        _ => "no lean cut\n",
     };
     add_no_form(text, form, otherwise)
 }
@@ -419,9 +493,17 @@ fn add_known(
             error,
         } => {
             add_not_joined(text, *kind, path, first, seen)?;
+            if are_of_two_kinds(seen) {
+                return Ok(());
+            }
             add_prepared(text, error)
         }
-        CommandError::NotOfKind { kind, path, .. } => add_not_of_kind(text, *kind, path, seen),
+        CommandError::NotOfKind {
+            kind,
+            path,
+            other,
+            ..
+        } => add_not_of_kind(text, *kind, path, other, seen),
         CommandError::Replaces { file, out } => add_both(text, file, out),
         CommandError::OverFont { writes, font, .. } => add_over_font(text, *writes, font.as_str()),
         CommandError::OverItself { writes, font } => add_over_itself(text, *writes, font),

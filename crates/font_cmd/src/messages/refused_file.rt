@@ -61,8 +61,12 @@ pub(crate) enum Seen {
     Nothing,
     /// What the refused file is.
     What(&'static str),
-    /// What the file is that is refused as no cut, or as no cut of the kind that is asked for, where it can be read again.
-    Form(Option<FileForm>),
+    /// What the file is that is refused as no cut of the kind that is asked for, and of which kind another file of the join
+    /// is as a cut, where they can be read again.
+    Form {
+        form: Option<FileForm>,
+        other: Option<Kind>,
+    },
     /// Of which kind the first file of a join is as a cut, and the one that is refused, where that is known.
     Cuts {
         first: Option<Kind>,
@@ -206,36 +210,17 @@ fn is_too_large(error: &RunError) -> bool {
     )
 }
 
-// Returns whether a file of a join is refused because it is no cut.
-fn is_no_cut(error: &RunError) -> bool {
-    matches!(
-        error,
-        RunError::Join(JoinAllError::At {
-            step: _,
-            error: JoinError::NotACut(_),
-        })
-    )
-}
-
 // Returns what is known of a refused file.
-fn refused_seen<F: Files>(
-    files: &F,
-    alloc: Global,
-    path: &str,
-    error: &RunError,
-) -> Result<Seen, AllocError> {
-    if is_no_cut(error) {
-        return Ok(Seen::Form(form_at(files, alloc, path)?));
-    }
+fn refused_seen<F: Files>(files: &F, path: &str, error: &RunError) -> Seen {
     if is_too_large(error) {
-        return Ok(Seen::What(TOO_LARGE));
+        return Seen::What(TOO_LARGE);
     }
     let Some(error) = font_error(error) else {
-        return Ok(Seen::Nothing);
+        return Seen::Nothing;
     };
     match refused_font(files, path, error) {
-        Some(what) => Ok(Seen::What(what)),
-        None => Ok(Seen::Nothing),
+        Some(what) => Seen::What(what),
+        None => Seen::Nothing,
     }
 }
 
@@ -249,7 +234,7 @@ pub(crate) fn look_again<F: Files, I, O>(
 ) -> Result<Seen, AllocError> {
     let (files, alloc) = (system.files, system.alloc);
     match error {
-        CommandError::RefusedFile { path, error } => refused_seen(files, alloc, path, error),
+        CommandError::RefusedFile { path, error } => Ok(refused_seen(files, path, error)),
         CommandError::NotJoined {
             kind: Kind::Lean,
             path,
@@ -263,7 +248,10 @@ pub(crate) fn look_again<F: Files, I, O>(
             first: cut_kind_at(files, alloc, first)?,
             refused: cut_kind_at(files, alloc, path)?,
         }),
-        CommandError::NotOfKind { path, .. } => Ok(Seen::Form(form_at(files, alloc, path)?)),
+        CommandError::NotOfKind { path, other, .. } => Ok(Seen::Form {
+            form: form_at(files, alloc, path)?,
+            other: cut_kind_at(files, alloc, other)?,
+        }),
         _ => Ok(Seen::Nothing),
     }
 }
