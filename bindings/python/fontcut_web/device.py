@@ -40,8 +40,8 @@ def _why_not(paths: Sequence[str], fonts: Sequence[bytes], refused: fontcut.Refu
         return f"{paths[at]}: it is no cut"
     if first != kind:
         option = "" if first == "full" else f" --{first}"
-        return (f"{paths[at]} is a {kind} cut, and {paths[0]} a {first} cut: cuts of one kind alone are joined; fontcut "
-                f"subset{option} makes {first} cuts")
+        return (f"{paths[at]} is a {kind} cut, and {paths[0]} a {first} cut: cuts of one kind alone are joined; "
+                f"fontcut subset{option} makes {first} cuts")
     return f"{paths[at]}: {refused.text}"
 
 

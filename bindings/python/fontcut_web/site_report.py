@@ -42,8 +42,8 @@ def check_faces(found: Iterable[Tuple[str, Face, str]]) -> None:
     for section, face, font in found:
         other = faces.setdefault((section, face), font)
         if other != font:
-            raise Refused(f"{font}: it has the family, style, weight and width of {other} on pages of {section}: {face}; "
-                          "name another family for it, or other pages")
+            raise Refused(f"{font}: it has the family, style, weight and width of {other} on pages of {section}: "
+                          f"{face}; name another family for it, or other pages")
 
 
 def _sheet(made: Sequence[Made], display: str) -> str:

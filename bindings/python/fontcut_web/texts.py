@@ -209,13 +209,13 @@ def _say(lines: Iterable[str]) -> None:
         print(f"fontcut-web: {line}", file=sys.stderr)
 
 
-def _check_drawn(given: argparse.Namespace, every: Sequence[object], notices: Iterable[str]) -> None:
+def _check_drawn(given: argparse.Namespace, every: Sequence[object], notices: Sequence[str]) -> None:
     """Raises `Refused` where a page is drawn otherwise by the cut, after what is said of the cut, which may be why."""
     try:
         part("drawn").check(every)
     except Refused as refusal:
         _say(() if given.quiet else notices)
-        if given.kind in SHAPED:
+        if given.kind in SHAPED or any(": take --" in line for line in notices):
             raise
         raise Refused(f"{refusal}; a {given.kind} cut has no kerning and no ligatures: take --layout") from refusal
 
