@@ -319,9 +319,10 @@ async function runSlice(given, [path, folder, ...more]) {
         }
     });
     if (!given.quiet) {
-        const every = wanted.flatMap((one) => ranges(one.unicodes));
-        const asked = { wanted: every, named: every, texts: [], hasGlyphs: true };
-        say([...said, ...lossesOf(shownName(path), font, kind, asked)]);
+        const codesOfAll = wanted.flatMap((one) => ranges(one.unicodes));
+        const asked = { wanted: codesOfAll, named: codesOfAll, texts: [], hasGlyphs: true };
+        const none = every.length ? [] : given.slices.map((one) => `${shownName(one)} names no slice`);
+        say([...said, ...none, ...lossesOf(shownName(path), font, kind, asked)]);
     }
 }
 

@@ -38,10 +38,11 @@ class Slice(NamedTuple):
 
 
 class Listed(NamedTuple):
-    """A slice of these ranges, which are in ascending order."""
+    """A slice of these ranges, which are in ascending order, and the file that has it, if that is no preset."""
 
     name: str
     ranges: List[fontcut.Range]
+    path: str = ""
 
     def names(self) -> List[str]:
         return [self.name]
@@ -206,7 +207,7 @@ def _lines(path: str) -> Iterator[Listed]:
             raise UsageError(f"{path}: line {number}: bad name {name[:40]!r}: write letters of ASCII, digits and . _ -")
         if name:
             try:
-                yield Listed(name, fontcut.ranges(words))
+                yield Listed(name, fontcut.ranges(words), path)
             except ValueError as error:
                 raise UsageError(f"{path}: line {number}: {error}") from error
 
@@ -240,6 +241,12 @@ def divided(codes: Sequence[int], wanted: Iterable[Asked], whole: Sequence[Set[i
         inside = {code for each in made for code in each.codes}
         left = [code for code in left if code not in inside]
     return found
+
+
+def empty_names(wanted: Iterable[Asked], slices: Iterable[Slice]) -> List[str]:
+    """The names of the slices of files that are not among these slices, as they have no character."""
+    made = {one.name for one in slices}
+    return [one.name for one in wanted if isinstance(one, Listed) and one.path and one.name not in made]
 
 
 def _undivided(slices: Sequence[Slice], whole: Sequence[Set[int]]) -> List[Slice]:

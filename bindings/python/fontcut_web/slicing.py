@@ -15,7 +15,7 @@ from .inputs import font_of, refusing
 from .notices import ShapedScript, dropped, shaped_scripts
 from .prepare import is_prepared, samples
 from .processes import side_by_side
-from .sets import REST, Asked, Slice, codes_of, divided, left_out, range_words, unsliced
+from .sets import REST, Asked, Slice, codes_of, divided, empty_names, left_out, range_words, unsliced
 from .sheet import Placed, Styled, page, preloads, style_sheet
 from .woff import compressed_size, packed, without
 
@@ -130,7 +130,9 @@ def _opened(path: str, asked: Sequence[Asked], how: SliceOptions) -> Font:
         raise Refused(lost_words(path, lost))
     if how.rest and rest:
         slices, rest = [*slices, Slice(REST, rest)], []
-    notices = [*([lost_words(path, lost)] if lost else []), *([left_words(path, rest)] if rest else [])]
+    empty = empty_names(asked, slices)
+    notices = [f"{path}: slices without a character of it are not written: {', '.join(empty)}"] if empty else []
+    notices += [*([lost_words(path, lost)] if lost else []), *([left_words(path, rest)] if rest else [])]
     notices += _divided_words(path, scripts, divided(codes, asked), slices)
     notices += dropped(path, font.data, (code for one in slices for code in one.codes), kind)
     is_fitted = kind in SHAPED and not how.as_is and not is_prepared(path)

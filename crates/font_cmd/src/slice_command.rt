@@ -17,7 +17,7 @@ use commands::RunError;
 use font_coverage::{Asked, losses, mapped_codes};
 use font_file::Font;
 use font_subset::{FontToCut, cut_of_kind_into, keeps_layout};
-use font_texts::{ShownWord, add_rule};
+use font_texts::{Shown, ShownWord, add_rule};
 use font_theory::Kind;
 use program_files::{HeldFiles, System};
 use std::alloc::{AllocError, Global};
@@ -152,6 +152,13 @@ impl Said {
         Ok(said)
     }
 
+    // Adds that the file of slices at a path names none.
+    fn add_none(&mut self, path: &str) -> Result<(), AllocError> {
+        let name = Shown(input_name(path));
+        write!(self.unmapped, "fontcut: {name} names no slice\n")?;
+        Ok(())
+    }
+
     // Prints the rules for slices that are written, and returns what else is said of them.
     fn told<W: Flushes>(
         self,
@@ -275,6 +282,9 @@ fn slice_font<'a, F: HeldFiles, I, O: Write + Copy + Drop, W: Flushes>(
     let mut said = Said::of(system.alloc, font, line.family, &slices)?;
     if line.is_strict && !said.unmapped.is_empty() {
         return Ok(said.unwritten(system.alloc, line.is_quiet)?);
+    }
+    if slices.is_empty() {
+        said.add_none(line.slices)?;
     }
     let lost = lost_of(system.alloc, kind, line, font, &slices)?;
     said.unmapped.push_str(lost.as_str())?;
