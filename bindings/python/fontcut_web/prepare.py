@@ -27,6 +27,14 @@ _ROUNDED = 2
 _MOST_LINES = 2000
 
 
+class Otherwise(Refused):
+    """A prepared font would shape a text otherwise than the font in a file."""
+
+    def __init__(self, path: str, text: str):
+        super().__init__(f"{path}: prepared, it would shape {text!r} otherwise")
+        self.text = text
+
+
 class Wanted(NamedTuple):
     """What a font is prepared for: the characters of it, those that it lacks, and texts to try it with."""
 
@@ -119,7 +127,8 @@ def _off(one: Prepared, how: PrepareOptions) -> Tuple[str, ...]:
 
 
 def _check_shapes(path: str, font: fontcut.Font, one: Prepared, how: PrepareOptions, texts: Sequence[str]) -> None:
-    """Raises `Refused` where texts are shaped otherwise by the prepared font, but for features that were dropped."""
+    """Raises `Otherwise` for a text that the prepared font shapes otherwise, but for features that were dropped, and
+    for characters that the font lacks."""
     off, most = _off(one, how), _ROUNDED if how.limits else 0
     with tempfile.TemporaryDirectory() as folder, as_file(path, font) as whole:
         made = file_in(folder, "prepared.ttf", one.data)
@@ -127,7 +136,7 @@ def _check_shapes(path: str, font: fontcut.Font, one: Prepared, how: PrepareOpti
             settings = Setting(features=off, place=place_of(before)), Setting(features=off, place=place_of(now))
             text = shaping.difference((whole, made), texts, settings, most)
             if text is not None:
-                raise Refused(f"{path}: prepared, it would shape {text!r} otherwise")
+                raise Otherwise(path, text)
 
 
 def _is_prepared_from(path: str, font: str) -> bool:

@@ -107,13 +107,21 @@ def _numbers(line: str) -> List[Tuple[int, ...]]:
     return [tuple(int(number or 0) for number in found) for found in _GLYPH.findall(line)]
 
 
+def _drawn(line: str) -> List[Tuple[int, ...]]:
+    """The numbers of the glyphs of a line that browsers draw. A cluster with a character that the font lacks, whose
+    glyph is 0, they draw in another font."""
+    every = _numbers(line)
+    lacking = {numbers[1] for numbers in every if numbers[0] == 0}
+    return [numbers for numbers in every if numbers[1] not in lacking]
+
+
 def _is_near(one: str, other: str, most: int) -> bool:
-    """Whether two lines have the same glyphs and clusters, and offsets and advances that are off by so many units at
-    most."""
-    pairs = list(zip(_numbers(one), _numbers(other)))
-    return len(_numbers(one)) == len(_numbers(other)) and all(
+    """Whether two lines have the same glyphs and clusters where the font is drawn, and offsets and advances that are
+    off by so many units at most."""
+    drawn, others = _drawn(one), _drawn(other)
+    return len(drawn) == len(others) and all(
         first[:2] == second[:2] and max(abs(left - right) for left, right in zip(first[2:], second[2:])) <= most
-        for first, second in pairs)
+        for first, second in zip(drawn, others))
 
 
 def difference(paths: Tuple[str, str], texts: Sequence[str], settings: Tuple[Setting, Setting],

@@ -13,7 +13,7 @@ from .axes import kind_for
 from .common import SHAPED, Refused, codes_in
 from .faces import Face, face_of, varying
 from .inputs import accepted, mapped, refusing
-from .prepare import made_of, wanted_of
+from .prepare import Otherwise, made_of, wanted_of
 from .preparing import PrepareOptions
 from .processes import side_by_side
 from .sets import codes_of, range_words, some_words
@@ -122,22 +122,38 @@ def wished(one: FontSettings, name: str, whole: fontcut.Font, pages: Sequence[Si
     return found
 
 
-def _prepared(one: Wished) -> bytes:
-    """The font, prepared."""
+class Ready(NamedTuple):
+    """A font that is ready to be cut: its bytes, and why it is not prepared, if it is not."""
+
+    data: bytes
+    why: str = ""
+
+
+def _prepared(one: Wished) -> Ready:
+    """The font, prepared; or as it is, where it would shape text of pages otherwise then."""
     how, letters = one.settings, _letters(one.settings, one.pages)
     codes = mapped(one.whole, letters)
     options = PrepareOptions(codes, _features(how, one.pages), how.hinting,
                              preparing.limits_of(how.instance) if how.instance else {}, how.names, how.kern)
     wanted = wanted_of(one.whole, codes, letters, [page.shown.blocks for page in one.pages])
-    return made_of(how.file, one.whole, wanted, options).data
+    try:
+        return Ready(made_of(how.file, one.whole, wanted, options).data)
+    except Otherwise as refusal:
+        page = next((page.name for page in one.pages if refusal.text in page.shown.blocks), "")
+        why = f"{refusal}{f', which is of {page}' if page else ''}"
+        if how.instance:
+            raise Refused(f"{why}: without instance it is cut as it is") from refusal
+        return Ready(one.whole.data, f"{why}: it is cut as it is")
 
 
-def _put(run: Run, one: Wished, data: bytes) -> FontState:
-    """Writes a font that is prepared."""
+def _put(run: Run, one: Wished, ready: Ready) -> FontState:
+    """Writes a font that is ready to be cut."""
+    if ready.why:
+        run.said.append(ready.why)
     codes = mapped(one.whole, _letters(one.settings, one.pages))
     return FontState(digest(one.whole.data), _key(one.settings, one.whole),
-                     run.place.put(run.place.work, one.name, ".ttf", data), range_words(codes),
-                     _features(one.settings, one.pages), _known_whole(one), {}, {})
+                     run.place.put(run.place.work, one.name, ".ttf", ready.data), range_words(codes),
+                     None if ready.why else _features(one.settings, one.pages), _known_whole(one), {}, {})
 
 
 def _known_whole(one: Wished) -> int:
