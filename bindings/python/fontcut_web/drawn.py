@@ -54,7 +54,7 @@ _OTHERS = "iframe", "frame", "object", "embed"
 _EXPIRED = "Emulation.virtualTimeBudgetExpired"
 # All text is drawn in the font, whatever the style sheets say, and what it lacks as boxes: the browser would take it of
 # a font of the system, which may be the whole font. No font of the system has the names of these families.
-_STYLE = """<style>@font-face {{ font-family: font-{name}; src: url("{font}"); font-display: block; }}
+_STYLE = """<style>@font-face {{ font-family: font-{name}; src: url("{font}"); font-display: block; {more} }}
 @font-face {{ font-family: boxes-{name}; src: url("{boxes}"); font-display: block; }}
 *, *::before, *::after, *::first-letter, *::first-line, *::marker, *::placeholder {{
   font-family: font-{name}, boxes-{name} !important; }}
@@ -110,19 +110,27 @@ def _page(path: str, before: str, after: str) -> str:
     return f"{text[:start]}{base}{before}{text[start:]}{after}"
 
 
+def _limited(ranges: str) -> str:
+    """What a rule says of a font that has the characters of these ranges alone; nothing, if none are named."""
+    return f"unicode-range: {ranges};" if ranges else ""
+
+
 class Drawn(NamedTuple):
-    """A page in a file, a whole font, and its cut, by which all of the page is to be drawn as by the font; and whether
-    nothing runs in the page that could keep something for the next picture."""
+    """A page in a file, a whole font, and its cut, by which all of the page is to be drawn as by the font; whether
+    nothing runs in the page that could keep something for the next picture; and the characters that style sheets say
+    the cut has, if they do."""
 
     page: str
     whole: bytes
     cut: bytes
     is_still: bool = False
+    ranges: str = ""
 
     def shown(self, folder: str, is_cut: bool, boxed: str) -> str:
         """The page with one of the fonts, which is put into a folder, and boxes of the font in a file."""
         font = _put(folder, self.cut if is_cut else self.whole)
-        style = _STYLE.format(name=secrets.token_hex(8), font=font, boxes=_address(boxed))
+        more = _limited(self.ranges) if is_cut else ""
+        style = _STYLE.format(name=secrets.token_hex(8), font=font, boxes=_address(boxed), more=more)
         # The last style counts, and a script may take away the element in which it stands.
         return _page(self.page, style, style)
 
@@ -153,7 +161,7 @@ class DrawnBy(NamedTuple):
         rules = ""
         for font in self.fonts:
             address = _put(folder, font.cut if is_cut else font.whole)
-            more = f"unicode-range: {font.ranges};" if is_cut else ""
+            more = _limited(font.ranges) if is_cut else ""
             own = [one for one in font.declared if not one.startswith("font-family:")]
             for family in (string(font.family), other[font.family]):
                 rules += _RULE.format(declared=" ".join([f"font-family: {family};", *own]), font=address, more=more)

@@ -26,6 +26,7 @@ _OF_LANGUAGES = "han", "hangul", "hiragana", "katakana", "bopomofo"
 _TELLING = 2000
 # How many ranges of characters a message has at most.
 _SHOWN = 20
+_BLANK = 0x20
 # The last slice of `auto`: what is of no script. The last slice of other lists, where it is asked for.
 _OTHERS, REST = "others", "rest"
 
@@ -295,6 +296,12 @@ def _words_of(rows: Iterable[Sequence[int]]) -> str:
 def range_words(codes: Iterable[int]) -> str:
     """Codes in ascending order as a `unicode-range` of CSS has them."""
     return _words_of(_rows(codes))
+
+
+def page_range(codes: Iterable[int]) -> str:
+    """The same for the font of a page, which has the blank too, whether or not the font maps it: only a font of which
+    the range has the blank gives lines their height (CSS Fonts 4, first available font)."""
+    return range_words(sorted({_BLANK, *codes}))
 
 
 def some_of(names: Sequence[str], most: int = _SHOWN) -> str:

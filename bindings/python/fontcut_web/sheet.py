@@ -9,7 +9,7 @@ from typing import Iterable, Iterator, List, NamedTuple, Sequence
 from urllib.parse import quote
 
 from .faces import Face
-from .sets import Slice, range_words
+from .sets import Slice, page_range, range_words
 
 # How many slices of a font the page shows, and how many characters of each.
 _SHOWN_SLICES, _SHOWN_CHARACTERS = 8, 40
@@ -85,15 +85,15 @@ def page_of(command: str, title: str, lines: Iterable[str]) -> str:
                     f"<title>{title}</title>\n", *lines, "</body>\n</html>\n"])
 
 
-def style_sheet(fonts: Sequence[Styled], display: str, command: str) -> str:
-    """A rule for each slice. A browser loads a slice when a page has one of its characters."""
-    rules = []
+def style_sheet(fonts: Sequence[Styled], display: str, command: str, is_sliced: bool = False) -> str:
+    """A rule for each font of a page, or for each slice. A browser loads it when a page has one of its characters."""
+    rules, ranges = [], range_words if is_sliced else page_range
     for font in fonts:
         for placed in font.placed:
             rules.append(block("@font-face", [
                 *declarations(font.face), f"font-display: {display};",
                 f'src: url("{address_of(placed.file)}") format("{_FORMATS[placed.ending]}");',
-                f"unicode-range: {range_words(placed.slice.codes)};"]))
+                f"unicode-range: {ranges(placed.slice.codes)};"]))
     return sheet_of(command, rules)
 
 

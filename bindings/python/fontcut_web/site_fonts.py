@@ -16,7 +16,7 @@ from .inputs import accepted, mapped, refusing
 from .prepare import Otherwise, made_of, wanted_of
 from .preparing import PrepareOptions
 from .processes import side_by_side
-from .sets import codes_of, range_words, some_words
+from .sets import codes_of, page_range, range_words, some_words
 from .shaped import Known, Said
 from .sheet import declarations
 from .site_pages import CLOSED, EXACT, Modes, SitePage
@@ -335,10 +335,11 @@ def _compared(run: Run, every: Sequence[Section], cuts: Sequence[Cut]) -> List[d
     asked = [(one, cut, page) for one, cut in zip(every, cuts) for page in one.pages if page.name not in _checked(one)]
     found: List[drawn.Compared] = []
     for one, cut, page in (row for row in asked if not row[2].is_part):
-        found.append(drawn.Drawn(page.path, one.base.whole.data, _woff2(run, one, cut), drawn.is_still(page.page)))
+        found.append(drawn.Drawn(page.path, one.base.whole.data, _woff2(run, one, cut), drawn.is_still(page.page),
+                                 page_range(codes_of(cut.data))))
     for path, is_still in {page.path: drawn.is_still(page.page) for _, _, page in asked if page.is_part}.items():
         fonts = [drawn.Family(one.base.face.family, declarations(one.base.face), one.base.whole.data,
-                              _woff2(run, one, cut), range_words(codes_of(cut.data)))
+                              _woff2(run, one, cut), page_range(codes_of(cut.data)))
                  for one, cut in zip(every, cuts) if any(page.path == path for page in one.pages)]
         found.append(drawn.DrawnBy(path, fonts, is_still))
     return found

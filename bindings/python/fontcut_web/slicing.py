@@ -268,7 +268,7 @@ def write_slices(fonts: Sequence[Font], folder: str, how: SliceOptions, progress
         styled = [Styled(font.face, font.shown, [Placed(one.slice, (one.woff2 or one.cut)[0]) for one in made])
                   for font, made in written]
         # The style sheet names files that are all there, and the page names the style sheet.
-        sheet = style_sheet(styled, how.display, "slice").encode()
+        sheet = style_sheet(styled, how.display, "slice", is_sliced=True).encode()
         _put(folder, SHEET, sheet)
         _put(folder, PAGE, page(styled, SHEET).encode())
         told.update(css=SHEET, css_bytes=len(sheet), css_brotli_bytes=compressed_size(sheet), page=PAGE,

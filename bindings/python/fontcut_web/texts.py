@@ -15,7 +15,7 @@ from . import losses, pages, sequences, styles
 from .common import SHAPED, Missing, Refused, UsageError, need, part
 from .inputs import accepted, as_file, mapped, read_pages, refusing
 from .replaced import check_font, check_name, check_written, is_same
-from .sets import Slice, range_words, some_words
+from .sets import Slice, page_range, range_words, some_words
 from .shown import Shown, letters_of, read_styles, shown_by
 
 # What is said of an option without a character, as where a variable of a shell is empty.
@@ -242,7 +242,8 @@ def run(given: argparse.Namespace) -> None:
     notices = _dropped(given, source, font, cut, shown)
     if given.check:
         drawn = part("drawn")
-        every = [drawn.Drawn(path, font.data, data, drawn.is_still(page)) for path, page in zip(paths, read)]
+        ranges = page_range(cut.codes) if given.css else ""
+        every = [drawn.Drawn(path, font.data, data, drawn.is_still(page), ranges) for path, page in zip(paths, read)]
         _check_drawn(given, every, [*cut.warnings, *notices])
     write(out, data)
     sheet = _write_sheet(given, font, source, cut.codes) if given.css else {}
