@@ -12,6 +12,8 @@ from fontTools.pens.ttGlyphPen import TTGlyphPen
 from fontTools.ttLib.tables.DefaultTable import DefaultTable
 
 _UNITS, _EDGE = 1000, 60
+# No other font has this height above and below the line, so that it is seen which font gives lines their height.
+_ABOVE, _BELOW = 1307, -413
 _LAST = 0x10FFFF
 # Characters that shapers hide if a font lacks them, beside those of the categories of controls and formats (Unicode,
 # Default_Ignorable_Code_Point), and those that are none.
@@ -60,7 +62,7 @@ def boxes() -> bytes:
     box = pen.glyph()
     font.setupGlyf(dict.fromkeys(names, box))
     font.setupHorizontalMetrics({name: (_UNITS, 0) for name in names})
-    font.setupHorizontalHeader(ascent=_UNITS, descent=0)
+    font.setupHorizontalHeader(ascent=_ABOVE, descent=_BELOW)
     font.setupNameTable({"familyName": "boxes", "styleName": "Regular"})
     font.setupOS2()
     font.setupPost()
