@@ -19,6 +19,9 @@ from .woff import with_tables
 
 VERSION: str = fontTools.version
 _KERN, _ALL = "kern", "*"
+# The features by which browsers set brackets and stops of Chinese, Japanese and Korean closer (CSS Text 4,
+# text-spacing-trim), which fontTools keeps where it is asked alone.
+_SPACING = "chws", "halt", "vchw", "vhal"
 _TAG = re.compile(r"[\x20-\x7e]{4}")
 _NUMBER = r"-?\d+(?:\.\d+)?"
 _LIMIT = re.compile(rf"([\x21-\x7e]{{4}})=(?:(drop)|({_NUMBER})(?::({_NUMBER}))?)")
@@ -63,8 +66,8 @@ class Prepared(NamedTuple):
 
 
 def default_features() -> List[str]:
-    """The features that shapers use without being asked, and those of fractions and of vertical lines."""
-    return sorted(Options().layout_features)
+    """The features that shapers and browsers use without being asked, and those of fractions and of vertical lines."""
+    return sorted({*Options().layout_features, *_SPACING})
 
 
 def features_of(words: str) -> Optional[List[str]]:

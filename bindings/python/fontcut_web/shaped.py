@@ -2,6 +2,7 @@
 from __future__ import annotations
 
 import functools
+import io
 import itertools
 from typing import Callable, Dict, Iterable, Iterator, List, Mapping, NamedTuple, Optional, Sequence, Set, Tuple
 
@@ -10,7 +11,7 @@ from fontcut_output import Progress
 from fontTools import unicodedata as properties
 from fontTools.ttLib import TTFont
 
-from . import shaping
+from . import preparing, shaping
 from .common import MissingProgram, Refused
 from .inputs import mapped, sha256
 from .malformed import MALFORMED
@@ -91,6 +92,18 @@ def _substitutions(font: TTFont) -> Set[str]:
     """The features of a font that substitute glyphs."""
     table = font["GSUB"].table if "GSUB" in font else None
     return {record.FeatureTag for record in table.FeatureList.FeatureRecord} if table and table.FeatureList else set()
+
+
+def own_sets(data: bytes, words: str) -> List[Features]:
+    """The features of a font that substitute glyphs and that a list keeps beside those that browsers use unasked, each
+    by itself."""
+    asked = preparing.features_of(words)
+    try:
+        known = _substitutions(TTFont(io.BytesIO(data), lazy=True))
+    except MALFORMED:
+        return []
+    kept = known if asked is None else known.intersection(asked)
+    return [((tag, 1),) for tag in sorted(kept.difference(preparing.default_features()))]
 
 
 def _axis_values(font: TTFont) -> Dict[str, List[float]]:

@@ -108,6 +108,18 @@ def _with_more(sets: Sequence[Features], more: Sequence[Features]) -> List[Featu
     return list(dict.fromkeys(both))
 
 
+def with_features(page: Shown, more: Sequence[Features]) -> Shown:
+    """What a page shows, with more sets of features."""
+    sets = _with_more(page.features, more)
+    unknown = [_many(page.path)] if len(sets) > MOST else []
+    return page._replace(features=sets[:MOST], unknown=list(dict.fromkeys([*page.unknown, *unknown])))
+
+
+def _many(path: str) -> str:
+    """What is said of a page that has more sets of features than are shaped."""
+    return f"{path}: its text may have features in more than {MOST} ways, and is shaped in as many"
+
+
 def _turned_on(page: Page, styles: Styles, more: Sequence[Features]) -> Set[str]:
     """The features that style sheets and elements turn on, whatever they are about."""
     every = [*(rule.features for rule in styles.rules), *map(features_in, page.attributes.get("style", ()))]
@@ -146,4 +158,4 @@ def _unknown(page: Page, path: str, styles: Styles, lost: Sequence[str], is_more
     yield from (f"{path}: the style sheet {address} {LOST}{BY_FEATURES}" for address in lost)
     yield from (f"{path}: {declared!r} is not understood{BY_FEATURES}" for declared in styles.unread)
     if is_more:
-        yield f"{path}: its text may have features in more than {MOST} ways, and is shaped in as many"
+        yield _many(path)

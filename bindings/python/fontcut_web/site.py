@@ -13,6 +13,7 @@ from . import preparing, site_example
 from .common import Refused, UsageError, need
 from .inputs import accepted, mapped
 from .sets import codes_of
+from .shaped import own_sets
 from .site_fonts import Base, Run, Wished, bases, programs, sections, wished
 from .site_pages import SitePage, languages_of, modes_of, pages_of
 from .site_report import REPORT, Made, check_faces, is_ours, lines, report, sheets
@@ -52,8 +53,10 @@ def _bases(run: Run, settings: Settings, pages: Sequence[SitePage], before: Stat
     seen = views(settings, fonts, pages)
     run.said.extend(seen.said)
     every: List[Wished] = []
-    for number, (font, its) in enumerate(zip(fonts, seen.pages), 1):
+    for number, (font, shown) in enumerate(zip(fonts, seen.pages), 1):
         run.said.extend(_lacking_features(font))
+        sets = own_sets(font.whole.data, font.settings.features)
+        its = [page.shaped_with(sets) for page in shown]
         wishes = wished(font.settings, font.name, font.whole, its, languages, before)
         if not wishes and not any(page.name in font.pages and mapped(font.whole, page.letters) for page in pages):
             raise Refused(f"{font.settings.file}: it maps no character of its pages")

@@ -9,11 +9,11 @@ from .common import UsageError
 from .inputs import read_pages
 from .pages import Page
 from .processes import in_groups
-from .shown import Read, Shown, letters_of, read_styles, shown_by
+from .shown import Read, Shown, letters_of, read_styles, shown_by, with_features
 from .site_settings import SITE, FontSettings, Settings, named, page_names, sections_of
 from .site_state import digest_of
 from .site_written import Written, written_to
-from .styles import parts_of
+from .styles import Features, parts_of
 
 EXACT, CLOSED = "exact", "closed"
 
@@ -38,6 +38,11 @@ class SitePage(NamedTuple):
         """The page as a font shows it that draws this of it alone."""
         return self._replace(shown=shown, letters=letters_of(shown), digest=_digest(shown, self.written),
                              is_part=True)
+
+    def shaped_with(self, more: Sequence[Features]) -> SitePage:
+        """The page as a font shows it that has more sets of features."""
+        shown = with_features(self.shown, more) if more else self.shown
+        return self._replace(shown=shown, digest=_digest(shown, self.written))
 
 
 class Modes(NamedTuple):

@@ -20,7 +20,7 @@ Features = Tuple[Tuple[str, int], ...]
 # The descriptors of counter styles, which add text, and other properties.
 _COUNTERS = "symbols", "additive-symbols", "prefix", "suffix", "negative", "pad", "system"
 _PROPERTIES = ("font-feature-settings|font-language-override|font-variant(?:-[a-z-]+)?|font|text-transform|content|"
-               "quotes|text-overflow|hyphens|hyphenate-character|line-clamp|list-style(?:-type)?|"
+               "quotes|text-combine(?:-upright)?|text-overflow|hyphens|hyphenate-character|line-clamp|list-style(?:-type)?|"
                f"text-emphasis(?:-style)?|direction|unicode-bidi|writing-mode|{'|'.join(_COUNTERS)}")
 _VALUE = rf"(?:{STRING}|[^;{{}}\"'])*"
 _DECLARATION = re.compile(rf"(?<![\w-])(?:-(?:webkit|moz|ms)-)?({_PROPERTIES})\s*:\s*({_VALUE})", re.I)
@@ -58,6 +58,9 @@ _VARIANTS: Dict[str, Dict[str, str]] = {
     "font-variant-position": {"sub": "subs", "super": "sups"}}
 _OFF: Dict[str, str] = {"no-common-ligatures": "liga clig", "no-discretionary-ligatures": "dlig",
                         "no-historical-ligatures": "hlig", "no-contextual": "calt", "none": "liga clig dlig hlig calt"}
+# The features for letters that stand side by side in a vertical line (CSS Writing Modes 4, text-combine-upright): a
+# browser takes one of them, by how many letters these are.
+_COMBINED = "hwid", "twid", "qwid"
 SETTINGS, _LIGATURES = "font-feature-settings", "font-variant-ligatures"
 _CAPITALS = frozenset("small-caps all-small-caps petite-caps all-petite-caps unicase".split())
 # Quotation marks that browsers take, by the language of a text; the first are those of any other.
@@ -142,6 +145,8 @@ def _features(name: str, value: str) -> Iterator[Tuple[str, Features]]:
     elif name == "font":
         yield SETTINGS, ()
         yield from _variant("font-variant", [word for word in value.lower().split() if word == "small-caps"])
+    elif name.startswith("text-combine") and value.strip().lower() != "none":
+        yield from ((f"{name} {tag}", ((tag, 1),)) for tag in _COMBINED)
 
 
 def features_in(declarations: str) -> Dict[str, Features]:
