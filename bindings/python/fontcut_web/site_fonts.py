@@ -21,7 +21,7 @@ from .shaped import Known, Said
 from .sheet import declarations
 from .site_pages import CLOSED, EXACT, Modes, SitePage
 from .site_settings import FILE, FontSettings
-from .site_state import FontState, Place, SectionState, State, digest, digest_of
+from .site_state import File, FontState, Place, SectionState, State, digest, digest_of
 from .site_written import letters_with, with_text, written_by
 from .woff import packed
 
@@ -312,14 +312,14 @@ def _checked(one: Section) -> Dict[str, str]:
     return {name: key for name, key in one.old.checked.items() if one.keys.get(name) == key}
 
 
-def _written(run: Run, one: Section, cut: Cut) -> SectionState:
-    """Writes the files of a section, and returns its state."""
+def _written(run: Run, one: Section, cut: Cut, known: Sequence[File]) -> SectionState:
+    """Writes the files of a section, and returns its state. Files of the last run are known."""
     checked = one.keys if run.is_drawn else _checked(one)
     if one.old and cut.woff2 is None:
         return one.old._replace(pages=one.keys, checked=checked)
     file_name = f"{one.base.name}-{one.name}"
     return SectionState(_cuts_of(one.base), one.keys, run.place.put(run.place.work, file_name, ".ttf", cut.data),
-                        run.place.put(run.place.output, file_name, ".woff2", cut.woff2 or b""), checked)
+                        run.place.put_font(file_name, cut.woff2 or b"", known), checked)
 
 
 def _woff2(run: Run, one: Section, cut: Cut) -> bytes:
@@ -372,9 +372,10 @@ def sections(run: Run, found: Sequence[Tuple[Base, Sequence[SitePage]]], modes: 
     cuts = side_by_side([functools.partial(_made, run, one) for one in every])
     checked = [_check(run, every, cuts)] if run.is_drawn else []
     states: Dict[str, FontState] = {base.key: base.state._replace(sections={}) for base, _ in found}
+    known = [one.old.woff2 for one in every if one.old]
     for one, cut in zip(every, cuts):
         state = states[one.base.key]
         for manner, parts in cut.known.items():
             state.shaped.setdefault(manner, {}).update(parts)
-        state.sections[one.name] = _written(run, one, cut)
+        state.sections[one.name] = _written(run, one, cut, known)
     return Sections([states[base.key] for base, _ in found], checked)

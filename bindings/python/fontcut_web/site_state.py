@@ -120,6 +120,7 @@ class Place:
 
     def __init__(self, output: str, work: str) -> None:
         self.output, self.work = output, work
+        self.fonts: Dict[str, File] = {}
 
     @contextlib.contextmanager
     def locked(self) -> Iterator[None]:
@@ -170,10 +171,20 @@ class Place:
         data = bytes_at(folder, file.name)
         return data if data is not None and sha256(data) == file.digest else None
 
-    def put(self, folder: str, base: str, ending: str, data: bytes) -> File:
-        """Writes a file whose name ends with digits of its digest, and returns what is kept of it."""
+    def put_font(self, base: str, data: bytes, known: Iterable[File] = ()) -> File:
+        """Writes a font of the output. One with the bytes of a font that is known, or that this run has written, is
+        that file, so that a visitor loads it once."""
+        for file in known:
+            self.fonts.setdefault(file.digest, file)
         found = sha256(data)
-        file = File(f"{base}-{found[:_DIGITS]}{ending}", found, len(data))
+        self.fonts[found] = self.put(self.output, base, ".woff2", data, self.fonts.get(found))
+        return self.fonts[found]
+
+    def put(self, folder: str, base: str, ending: str, data: bytes, same: Optional[File] = None) -> File:
+        """Writes a file whose name ends with digits of its digest, or that of the same bytes, and returns what is kept
+        of it."""
+        found = sha256(data)
+        file = same or File(f"{base}-{found[:_DIGITS]}{ending}", found, len(data))
         if self.kept(folder, file) is None:
             self._begin([file.name])
             write(os.path.join(folder, file.name), data)
