@@ -5,13 +5,14 @@ from __future__ import annotations
 
 import argparse
 import contextlib
+import difflib
 import errno
 import os
 import shutil
 import sys
 import tempfile
 import time
-from typing import Any, Set
+from typing import Any, Sequence, Set
 
 import fontcut
 
@@ -30,9 +31,17 @@ class CommandParser(argparse.ArgumentParser):
             return super().parse_known_args(args, namespace)
         self._is_mixed = True
         try:
-            return self.parse_known_intermixed_args(args, namespace)
+            found, others = self.parse_known_intermixed_args(args, namespace)
         finally:
             self._is_mixed = False
+        self._check_options(others)
+        return found, others
+
+    def _check_options(self, words: Sequence[str]) -> None:
+        """Ends with an error for a word that is near to an option, and names that."""
+        for word in (word.partition("=")[0] for word in words if word.startswith("--")):
+            for near in difflib.get_close_matches(word, self._option_string_actions, 1):
+                self.error(f"there is no option {word}: did you mean {near}?")
 
 
 def write(path: str, data: bytes) -> None:

@@ -21,6 +21,7 @@ from .site_settings import FILE, Settings, named, settings_of
 from .site_state import NOTHING, FontState, Place, State, bytes_at, put_text
 from .site_text import SiteFont, views
 from .site_told import told as told_of
+from .site_written import written_by
 
 
 def _names(settings: Settings) -> List[str]:
@@ -56,9 +57,11 @@ def _bases(run: Run, settings: Settings, pages: Sequence[SitePage], before: Stat
     for number, (font, shown) in enumerate(zip(fonts, seen.pages), 1):
         run.said.extend(_lacking_features(font))
         sets = own_sets(font.whole.data, font.settings.features)
-        its = [page.shaped_with(sets) for page in shown]
+        is_written = bool(written_by([font.settings]).every)
+        its = [page.shaped_with(sets) for page in shown if is_written or not page.is_empty]
         wishes = wished(font.settings, font.name, font.whole, its, languages, before)
-        if not wishes and not any(page.name in font.pages and mapped(font.whole, page.letters) for page in pages):
+        if not wishes and not any(page.name in font.pages and (page.is_empty or mapped(font.whole, page.letters))
+                                  for page in pages):
             raise Refused(f"{font.settings.file}: it maps no character of its pages")
         if not wishes:
             run.said.append(f"font {number}, {font.settings.file}: no page draws text in it: nothing is made of it")

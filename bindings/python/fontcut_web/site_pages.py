@@ -34,6 +34,11 @@ class SitePage(NamedTuple):
     digest: str
     is_part: bool = False
 
+    @property
+    def is_empty(self) -> bool:
+        """Whether nothing is drawn of the page, and nothing is written to it."""
+        return not self.shown.text.replace("\0", "").strip() and not self.written.every
+
     def seen(self, shown: Shown) -> SitePage:
         """The page as a font shows it that draws this of it alone."""
         return self._replace(shown=shown, letters=letters_of(shown), digest=_digest(shown, self.written),

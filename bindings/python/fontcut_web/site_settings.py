@@ -143,6 +143,8 @@ def _font(path: str, number: int, table: object) -> FontSettings:
     values = _values(where, table, {"file": "", **FontSettings._field_defaults})
     if not values.get("file"):
         raise UsageError(f"{where}: file is missing")
+    if not values.get("family", "font").strip():
+        raise UsageError(f"{where}: family is empty: leave it out for the name that the font has")
     values["file"] = os.path.join(os.path.dirname(path), values["file"])
     found = FontSettings(**values)
     for key, choices in (("style", _STYLES), ("names", _NAMES), ("kern", _KERNS), ("kind", _KINDS)):
