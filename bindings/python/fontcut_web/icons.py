@@ -30,6 +30,8 @@ _NEAR = 3
 _LINE = re.compile(r"(\S+)[ \t]+(?:U\+|0x)?([0-9A-Fa-f]{1,6})")
 # Types of lookups of GSUB: a ligature, and one whose table stands elsewhere. Names of `post` that are made up.
 _LIGATURE, _EXTENSION, _WITHOUT_NAMES = 4, 7, 3.0
+# How many letters a word has at least: ligatures of text are of two or three.
+_WORD = 4
 # Codes that have no character of their own, of which an icon has one.
 _PRIVATE = range(0xE000, 0xF900)
 
@@ -78,6 +80,17 @@ def _ligatures(opened: TTFont) -> Iterator[Tuple[List[str], str]]:
             table = table.ExtSubTable if table.LookupType == _EXTENSION else table
             for first, rows in table.ligatures.items() if table.LookupType == _LIGATURE else ():
                 yield from (([first, *row.Component], row.LigGlyph) for row in rows)
+
+
+def is_of_icons(font: fontcut.Font) -> bool:
+    """Whether the ligatures of a font are icons: most of them are typed as a word, as those of no text are."""
+    letters = _letters(font)
+    try:
+        opened = TTFont(io.BytesIO(font.data), lazy=True)
+        typed = [parts for parts, _ in _ligatures(opened) if all(letters.get(opened.getGlyphID(one)) for one in parts)]
+    except MALFORMED:
+        return False
+    return 2 * sum(len(parts) >= _WORD for parts in typed) > len(typed)
 
 
 def _glyph_names(font: fontcut.Font) -> Iterator[Tuple[str, int]]:

@@ -11,6 +11,7 @@ from fontcut_output import Progress, print_line
 
 from . import preparing, site_example
 from .common import Refused, UsageError, need
+from .icons import is_of_icons
 from .inputs import accepted, mapped
 from .sets import codes_of
 from .shaped import own_sets
@@ -46,6 +47,18 @@ def _lacking_features(font: SiteFont) -> List[str]:
     return [f"{font.settings.file} has no feature {', '.join(lacking)}"] if lacking else []
 
 
+def _shown_in(run: Run, font: SiteFont, pages: Sequence[SitePage]) -> List[SitePage]:
+    """Pages as a font shows them: with the features that its settings keep, and without those that show nothing. One of
+    icons has no letters of the languages that readers write in, which would bring all icons."""
+    sets = own_sets(font.whole.data, font.settings.features)
+    is_written = bool(written_by([font.settings]).every)
+    its = [page.shaped_with(sets) for page in pages if is_written or not page.is_empty]
+    if any(page.written.letters for page in its) and is_of_icons(font.whole):
+        run.said.append(f"{font.settings.file}: its ligatures are icons: languages of a [[page]] are not for it")
+        return [page.without_letters() for page in its]
+    return its
+
+
 def _bases(run: Run, settings: Settings, pages: Sequence[SitePage], before: State) -> List[Tuple[Base, List[SitePage]]]:
     """The fonts that are prepared, each with its pages, which have characters of it."""
     names, languages = [page.name for page in pages], languages_of(settings, pages)
@@ -56,9 +69,7 @@ def _bases(run: Run, settings: Settings, pages: Sequence[SitePage], before: Stat
     every: List[Wished] = []
     for number, (font, shown) in enumerate(zip(fonts, seen.pages), 1):
         run.said.extend(_lacking_features(font))
-        sets = own_sets(font.whole.data, font.settings.features)
-        is_written = bool(written_by([font.settings]).every)
-        its = [page.shaped_with(sets) for page in shown if is_written or not page.is_empty]
+        its = _shown_in(run, font, shown)
         wishes = wished(font.settings, font.name, font.whole, its, languages, before)
         if not wishes and not any(page.name in font.pages and (page.is_empty or mapped(font.whole, page.letters))
                                   for page in pages):

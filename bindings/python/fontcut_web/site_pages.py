@@ -39,6 +39,11 @@ class SitePage(NamedTuple):
         """Whether nothing is drawn of the page, and nothing is written to it."""
         return not self.shown.text.replace("\0", "").strip() and not self.written.every
 
+    def without_letters(self) -> SitePage:
+        """The page as a font shows it that has no letters of languages."""
+        written = self.written._replace(letters=frozenset())
+        return self._replace(written=written, digest=_digest(self.shown, written))
+
     def seen(self, shown: Shown) -> SitePage:
         """The page as a font shows it that draws this of it alone."""
         return self._replace(shown=shown, letters=letters_of(shown), digest=_digest(shown, self.written),
