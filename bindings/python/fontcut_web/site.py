@@ -9,8 +9,9 @@ from typing import List, Mapping, Sequence, Set, Tuple
 import fontcut
 from fontcut_output import Progress, print_line
 
-from . import preparing, site_example
+from . import own_faces, preparing, site_example
 from .common import Refused, UsageError, need
+from .faces import face_of
 from .icons import is_of_icons
 from .inputs import accepted, mapped
 from .sets import codes_of
@@ -76,6 +77,9 @@ def _bases(run: Run, settings: Settings, pages: Sequence[SitePage], before: Stat
             raise Refused(f"{font.settings.file}: it maps no character of its pages")
         if not wishes:
             run.said.append(f"font {number}, {font.settings.file}: no page draws text in it: nothing is made of it")
+        run.said.extend(f"font {number}, {font.settings.file}: {line}" for line in own_faces.told(
+            font.settings.file, font.settings.family or face_of(font.whole.data, font.name).family,
+            [page for page in pages if page.name in font.pages], settings.folder))
         every += wishes
     return [(base, [page for page in one.pages if mapped(base.font, page.letters)])
             for one, base in zip(every, bases(run, every))]
