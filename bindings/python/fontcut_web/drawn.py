@@ -10,7 +10,7 @@ import re
 import secrets
 import shutil
 import tempfile
-from typing import Any, Dict, Iterator, List, NamedTuple, Optional, Sequence, Set, Tuple, Union
+from typing import Any, Dict, Iterator, List, NamedTuple, Optional, Sequence, Tuple, Union
 from urllib.request import pathname2url
 
 from fontcut_output import read
@@ -18,6 +18,7 @@ from fontcut_output import read
 from .boxes import boxes
 from .browser import Browser, Failed
 from .common import MissingProgram, Refused
+from .differing import Difference, kept, place_of, words_of
 from .inputs import file_in, sha256
 from .pages import Page, decoded
 from .processes import processors, side_by_side
@@ -51,6 +52,7 @@ _FONTS = """(async () => {
 })()"""
 # Elements with pages of their own.
 _OTHERS = "iframe", "frame", "object", "embed"
+_DIFFERS = "it is drawn otherwise by the cut than by the whole font"
 _EXPIRED = "Emulation.virtualTimeBudgetExpired"
 # All text is drawn in the font, whatever the style sheets say, and what it lacks as boxes: the browser would take it of
 # a font of the system, which may be the whole font. No font of the system has the names of these families.
@@ -134,6 +136,10 @@ class Drawn(NamedTuple):
         # The last style counts, and a script may take away the element in which it stands.
         return _page(self.page, style, style)
 
+    def names(self, _: str) -> str:
+        """What the families of an element are called here: there is one font alone."""
+        return ""
+
 
 class Family(NamedTuple):
     """A font of a page: its family, what style sheets declare of it, the whole font, its cut, and the characters that
@@ -168,6 +174,11 @@ class DrawnBy(NamedTuple):
         known = json.dumps([[family.lower(), renamed] for family, renamed in other.items()]).replace("<", "\\u003c")
         after = _RENAMED.format(rules=rules, name=name, boxes=_address(boxed), known=known)
         return _page(self.page, "", after)
+
+    def names(self, families: str) -> str:
+        """What the families of an element are called here."""
+        numbers = map(int, re.findall(r"font-[0-9a-f]{16}-(\d+)", families))
+        return ", ".join(self.fonts[number].family for number in numbers) or "none of the fonts"
 
 
 Compared = Union[Drawn, DrawnBy]
@@ -210,27 +221,27 @@ class _Tab:
         target = browser.ask("Target.createTarget", url="about:blank", browserContextId=self.context, width=_WIDTH,
                              height=_HEIGHT)["targetId"]
         self.session = browser.ask("Target.attachToTarget", targetId=target, flatten=True)["sessionId"]
-        self._ask("Page.enable")
+        self.ask("Page.enable")
 
-    def _ask(self, method: str, **given: object) -> Dict[str, Any]:
+    def ask(self, method: str, **given: object) -> Dict[str, Any]:
         return self.browser.ask(method, self.session, **given)
 
     def picture(self, address: str, is_still: bool) -> str:
         """The picture of a page, when its scripts have had their time, and the fonts of one without scripts are there.
         The window is low, for a high one takes longer to be drawn, and what lies below it is drawn too."""
-        self._ask("Emulation.setVirtualTimePolicy", policy="advance")
-        self._ask("Page.navigate", url=address)
+        self.ask("Emulation.setVirtualTimePolicy", policy="advance")
+        self.ask("Page.navigate", url=address)
         self.browser.forget(_EXPIRED, self.session)
-        self._ask("Emulation.setVirtualTimePolicy", policy="pauseIfNetworkFetchesPending", budget=_MILLISECONDS,
+        self.ask("Emulation.setVirtualTimePolicy", policy="pauseIfNetworkFetchesPending", budget=_MILLISECONDS,
                   maxVirtualTimeTaskStarvationCount=9999)
         self.browser.wait_for(_EXPIRED, self.session)
         if is_still:
-            self._ask("Emulation.setVirtualTimePolicy", policy="advance")
-            self._ask("Runtime.evaluate", expression=_FONTS, awaitPromise=True)
-        height = min(_MOST, self._ask("Page.getLayoutMetrics")["cssContentSize"]["height"])
+            self.ask("Emulation.setVirtualTimePolicy", policy="advance")
+            self.ask("Runtime.evaluate", expression=_FONTS, awaitPromise=True)
+        height = min(_MOST, self.ask("Page.getLayoutMetrics")["cssContentSize"]["height"])
         clip = {"x": 0, "y": 0, "width": _WIDTH, "height": height, "scale": 1}
         below = {"clip": clip, "captureBeyondViewport": True} if height > _HEIGHT else {}
-        picture: str = self._ask("Page.captureScreenshot", format="png", optimizeForSpeed=True, **below)["data"]
+        picture: str = self.ask("Page.captureScreenshot", format="png", optimizeForSpeed=True, **below)["data"]
         return picture
 
     def close(self) -> None:
@@ -255,27 +266,34 @@ class _Tabs:
         return picture
 
 
-def _is_same(one: Compared, tabs: _Tabs, folder: str, name: str, boxed: str) -> bool:
-    """Whether a page is drawn by a cut as by the whole font; the files for that have this name in a folder."""
-    pictures: Set[str] = set()
+def _difference(one: Compared, tabs: _Tabs, folder: str, name: str, boxed: str) -> Optional[Difference]:
+    """How a page is drawn otherwise by a cut than by the whole font, if it is; the files for that have this name in a
+    folder."""
+    pictures: List[str] = []
+    addresses: List[str] = []
     for is_cut in False, True:
         shown = one.shown(folder, is_cut, boxed)
-        file = file_in(folder, f"{name}-{is_cut}.html", shown.encode("utf-8", "replace"))
-        pictures.add(tabs.picture(_address(file), one.is_still))
-    return len(pictures) == 1
+        addresses.append(_address(file_in(folder, f"{name}-{is_cut}.html", shown.encode("utf-8", "replace"))))
+        pictures.append(tabs.picture(addresses[-1], one.is_still))
+    if pictures[0] == pictures[1]:
+        return None
+    empty, page = _Tab(tabs.browser), _Tab(tabs.browser)
+    place = place_of(empty.ask, pictures)
+    page.picture(addresses[0], one.is_still)
+    page.ask("Emulation.setVirtualTimePolicy", policy="advance")
+    return Difference(f"{_DIFFERS}{words_of(page.ask, place, one.names)}", pictures)
 
 
-def _differences(program: str, every: Sequence[Compared]) -> List[str]:
-    """What is said of each page that is not drawn by a cut as by the whole font; an empty text where it is."""
-    found: List[str] = []
+def _differences(program: str, every: Sequence[Compared]) -> List[Optional[Difference]]:
+    """How each page is drawn otherwise by a cut than by the whole font, if it is."""
+    found: List[Optional[Difference]] = []
     with _browsing(program) as (browser, folder):
         boxed, tabs = file_in(folder, "boxes", boxes()), _Tabs(browser)
         for one in every:
             try:
-                is_same = _is_same(one, tabs, folder, str(len(found)), boxed)
-                found.append("" if is_same else "it is drawn otherwise by the cut than by the whole font")
+                found.append(_difference(one, tabs, folder, str(len(found)), boxed))
             except Failed as failed:
-                return [*found, f"{os.path.basename(program)} draws no picture of it: {failed}"]
+                return [*found, Difference(f"{os.path.basename(program)} draws no picture of it: {failed}")]
     return found
 
 
@@ -286,5 +304,6 @@ def check(every: Sequence[Compared]) -> None:
     said = side_by_side([functools.partial(_differences, program, part) for part in parts])
     for number, one in enumerate(every):
         part = said[number % count]
-        if number // count < len(part) and part[number // count]:
-            raise Refused(f"{one.page}: {part[number // count]}")
+        difference = part[number // count] if number // count < len(part) else None
+        if difference:
+            raise Refused(f"{one.page}: {kept(difference)}")

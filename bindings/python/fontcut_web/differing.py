@@ -1,0 +1,87 @@
+"""Where two pictures of a page differ, which the browser tells that has drawn them."""
+from __future__ import annotations
+
+import base64
+import json
+import os
+import tempfile
+from typing import Any, Callable, Dict, List, NamedTuple, Sequence
+
+from fontcut_output import write
+
+# The first pixel by which two pictures differ, and the rectangle of all of those that do; nothing, where one is but
+# higher than the other.
+_COMPARE = """(async () => {
+    const every = [];
+    for (const picture of %s) {
+        const image = new Image();
+        image.src = "data:image/png;base64," + picture;
+        await image.decode();
+        const drawn = new OffscreenCanvas(image.width, image.height).getContext("2d");
+        drawn.drawImage(image, 0, 0);
+        every.push(drawn.getImageData(0, 0, image.width, image.height));
+    }
+    const [one, other] = every.map(each => new Uint32Array(each.data.buffer));
+    const width = every[0].width, count = Math.min(one.length, other.length), xs = [], ys = [];
+    for (let at = 0; at < count; at++) {
+        if (one[at] !== other[at]) {
+            xs.push(at %% width);
+            ys.push(Math.floor(at / width));
+        }
+    }
+    const least = all => all.reduce((some, each) => Math.min(some, each));
+    const most = all => all.reduce((some, each) => Math.max(some, each));
+    return xs.length ? [xs[0], ys[0], least(xs), least(ys), most(xs), most(ys)] : [];
+})()"""
+# The element at a place of a page, what it says, and its fonts.
+_ELEMENT = """((x, y) => {
+    scrollTo(0, Math.max(0, y - 100));
+    const one = document.elementFromPoint(x - scrollX, y - scrollY);
+    if (!one) return ["", "", ""];
+    const name = [one.localName, ...one.classList].join("."), text = (one.innerText || "").trim();
+    return [name, text.split(/\\s+/).join(" ").slice(0, 40), getComputedStyle(one).fontFamily];
+})(%d, %d)"""
+
+# How a page of the browser is told something.
+Ask = Callable[..., Dict[str, Any]]
+
+
+class Difference(NamedTuple):
+    """What is said of a page that is not drawn by a cut as by the whole font, and both pictures, if it was drawn."""
+
+    said: str
+    pictures: Sequence[str] = ()
+
+
+def _asked(ask: Ask, expression: str) -> List[Any]:
+    """The list that an expression of JavaScript stands for in a page."""
+    found: List[Any] = ask("Runtime.evaluate", expression=expression, awaitPromise=True,
+                           returnByValue=True)["result"].get("value", [])
+    return found
+
+
+def place_of(ask: Ask, pictures: Sequence[str]) -> List[int]:
+    """The first pixel by which two pictures differ, and the rectangle of those that do, which an empty page finds."""
+    return _asked(ask, _COMPARE % json.dumps(pictures))
+
+
+def words_of(ask: Ask, place: Sequence[int], names: Callable[[str], str]) -> str:
+    """What is said of the place where a page differs, which is open in the browser: its element, and the fonts that are
+    named for it, as they are called here."""
+    if not place:
+        return ", whose picture is higher or lower"
+    x, y, left, top, right, bottom = place
+    name, text, families = _asked(ask, _ELEMENT % (x, y))
+    fonts = names(families)
+    return (f", first at {x}, {y} in {name or 'the page'} {text!r}{f', drawn in {fonts}' if fonts else ''}; what differs "
+            f"is from {left}, {top} to {right}, {bottom}")
+
+
+def kept(difference: Difference) -> str:
+    """What is said of a page, when its pictures are kept in a new folder, which is named."""
+    if not difference.pictures:
+        return difference.said
+    folder = tempfile.mkdtemp(prefix="fontcut-web-check-")
+    for name, picture in zip(("whole.png", "cut.png"), difference.pictures):
+        write(os.path.join(folder, name), base64.b64decode(picture))
+    return f"{difference.said}: {folder} has both pictures"
