@@ -30,6 +30,8 @@ const IDEOGRAPHS = [[0x3400, 0x4DBF], [0x4E00, 0x9FFF], [0xF900, 0xFAFF], [0x200
 const OF_WEB = [['latin', 'latin-ext', 'vietnamese'], ['greek', 'greek-ext'], ['cyrillic', 'cyrillic-ext']];
 const OF_LANGUAGES = ['han', 'hangul', 'hiragana', 'katakana', 'bopomofo'];
 const TELLING = 2000;
+// A preset of which a font has fewer characters has no slice of its own.
+const FEW = 8;
 
 const read = new Map();
 
@@ -125,6 +127,12 @@ async function languageOf(left) {
     return best[0];
 }
 
+// How many characters the slices of a preset have.
+function countOf(slices, preset) {
+    const own = slices.filter(({ name }) => name.replace(/-\d+$/, '') === preset);
+    return own.reduce((sum, one) => sum + one.codes.length, 0);
+}
+
 // The presets of the scripts of a font, in the order of the presets, but for those of some names; and what is left.
 async function automatic(taken, order, left) {
     const text = left.map((code) => String.fromCodePoint(code)).join('');
@@ -133,7 +141,9 @@ async function automatic(taken, order, left) {
         names.push(await languageOf(left));
     }
     names.push(...[...(await linesOf('scripts.txt')).keys()].filter((script) => hasScript(text, script)));
-    const found = await inTurn(names.filter((name) => !taken.includes(name)), order, left);
+    const wanted = names.filter((name) => !taken.includes(name));
+    const all = await inTurn(wanted, order, left);
+    const found = await inTurn(wanted.filter((name) => countOf(all, name) >= FEW), order, left);
     const sliced = new Set(found.flatMap((one) => one.codes));
     return [...found, { name: 'others', codes: left.filter((code) => !sliced.has(code)) }];
 }

@@ -24,6 +24,8 @@ _OF_WEB = {"latin": ("latin", "latin-ext", "vietnamese"), "greek": ("greek", "gr
            "cyrillic": ("cyrillic", "cyrillic-ext")}
 _OF_LANGUAGES = "han", "hangul", "hiragana", "katakana", "bopomofo"
 _TELLING = 2000
+# A preset of which a font has fewer characters has no slice of its own.
+_FEW = 8
 # How many ranges of characters a message has at most.
 _SHOWN = 20
 _BLANK = 0x20
@@ -106,7 +108,10 @@ class Auto(NamedTuple):
         words += [_language_of(set(left))] if found & set(_OF_LANGUAGES) else []
         words += [script for script in presets.scripts() if script in found]
         wanted = [_preset(word, self.order) for word in words if word not in self.taken]
-        return divided(left, [*wanted, Listed(_OTHERS, fontcut.ranges("all"))])
+        others = Listed(_OTHERS, fontcut.ranges("all"))
+        counts = {one.name: len(one.codes) for one in divided(left, [*wanted, others])}
+        many = [one for one in wanted if sum(counts.get(name, 0) for name in one.names()) >= _FEW]
+        return divided(left, [*many, others])
 
 
 Asked = Union[Listed, Equal, Ranked, Auto]
