@@ -29,10 +29,10 @@ Layout and variable cuts are made of the font prepared for {them}: they are smal
 --as-is they are cuts of the font as it is, which join, as do those of a font that fontcut-web prepare wrote. What is
 prepared has {features}."""
 _OF_SLICES = _CUT_KINDS.format(variable="Of a variable font", them="each slice",
-                               features="the features that shapers use without being asked")
+                               features="the features that shapers and browsers use without being asked")
 _OF_TEXT = _CUT_KINDS.format(
     variable="Where pages use axes of a variable font", them="the pages",
-    features="the features that shapers use without being asked, and those that style sheets turn on")
+    features="the features that shapers and browsers use without being asked, and those that style sheets turn on")
 
 _WHAT = """\
 Fonts for the web, cut by fontcut: prepared fonts, slices with a style sheet, cuts for the text of pages, the fonts of a
@@ -121,7 +121,7 @@ smaller. Lines, words and all pieces of words are shaped, with and without ligat
 names, in the directions that they may have, and with the features that its style sheets turn on.
 Text that is not in the pages may vanish, and no other font steps in: text that scripts or readers write, and what
 style sheets on other hosts add. It is said which pages have such. --check draws each page in Chromium, with FONT and
-with the cut; if a pixel differs, nothing is written.
+with the cut; if a pixel differs, it is said where, both pictures are kept, and nothing else is written.
 """
 
 _ICONS = """\
@@ -163,7 +163,8 @@ loads, with --whole beside those of the whole fonts as WOFF2.
 
 Run again, it makes anew only what has changed. A page that brings new characters has them joined into the font of its
 section. If the prepared font lacks them, it is prepared anew, and its files for this language get new names. What was
-made is kept in DIR/.fontcut. A run that is killed leaves the old files as they are, and the next one goes on.
+made is kept in DIR/.fontcut. A run that is killed leaves the old files as they are, and the next one goes on. A font
+that would shape text otherwise if it was prepared is cut as it is, which is said.
 
   pages = ["**/*.html"]            # the pages, which is the default
   closed = ["guestbook.html"]      # pages whose cuts draw other text in letters that these show
@@ -342,7 +343,8 @@ def _add_text(commands: argparse._SubParsersAction[CommandParser]) -> None:
     command.add_argument("--features", metavar="LIST", action="append",
                          help="keep these features too, and with --shaped shape with them, as smcp,onum or salt=2; may "
                               "be repeated")
-    command.add_argument("--check", action="store_true", help="write nothing if Chromium draws a page otherwise")
+    command.add_argument("--check", action="store_true",
+                         help="write nothing if Chromium draws a page otherwise, but keep both pictures")
     command.add_argument("--css", action="store_true", help="write OUT's style sheet, whose name ends in .css")
     _display(command)
     command.add_argument("--strict", action="store_true", help="write nothing if the font lacks a character")
@@ -417,7 +419,8 @@ def _add_site(commands: argparse._SubParsersAction[CommandParser]) -> None:
     command.add_argument("--anew", action="store_true", help="make all fonts anew, without characters that no page has "
                                                              "any more")
     command.add_argument("--check", action="store_true", help="replace nothing if Chromium draws a page otherwise by "
-                                                              "cuts; pages that have not changed are not drawn again")
+                                                              "cuts, but keep both pictures; pages that have not "
+                                                              "changed are not drawn again")
     command.add_argument("--whole", action="store_true", help="tell the bytes of the whole fonts as WOFF2 too, which "
                                                               "takes minutes for a large font the first time")
     command.add_argument("--json", action="store_true", help="print site.json, and no table")
