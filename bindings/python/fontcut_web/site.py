@@ -48,12 +48,12 @@ def _lacking_features(font: SiteFont) -> List[str]:
     return [f"{font.settings.file} has no feature {', '.join(lacking)}"] if lacking else []
 
 
-def _shown_in(run: Run, font: SiteFont, pages: Sequence[SitePage]) -> List[SitePage]:
-    """Pages as a font shows them: with the features that its settings keep, and without those that show nothing. One of
-    icons has no letters of the languages that readers write in, which would bring all icons."""
+def _shown_in(run: Run, font: SiteFont, pages: Sequence[SitePage], empty: Set[str]) -> List[SitePage]:
+    """Pages as a font shows them: with the features that its settings keep, and without those of these names, which
+    show nothing. One of icons has no letters of the languages that readers write in, which would bring all icons."""
     sets = own_sets(font.whole.data, font.settings.features)
     is_written = bool(written_by([font.settings]).every)
-    its = [page.shaped_with(sets) for page in pages if is_written or not page.is_empty]
+    its = [page.shaped_with(sets) for page in pages if is_written or page.name not in empty]
     if any(page.written.letters for page in its) and is_of_icons(font.whole):
         run.said.append(f"{font.settings.file}: its ligatures are icons: languages of a [[page]] are not for it")
         return [page.without_letters() for page in its]
@@ -67,13 +67,13 @@ def _bases(run: Run, settings: Settings, pages: Sequence[SitePage], before: Stat
              for font, name in zip(settings.fonts, _names(settings))]
     seen = views(settings, fonts, pages)
     run.said.extend(seen.said)
-    every: List[Wished] = []
+    every, empty = [], {page.name for page in pages if page.is_empty}  # type: List[Wished], Set[str]
     for number, (font, shown) in enumerate(zip(fonts, seen.pages), 1):
         run.said.extend(_lacking_features(font))
-        its = _shown_in(run, font, shown)
+        its = _shown_in(run, font, shown, empty)
         wishes = wished(font.settings, font.name, font.whole, its, languages, before)
-        if not wishes and not any(page.name in font.pages and (page.is_empty or mapped(font.whole, page.letters))
-                                  for page in pages):
+        if not wishes and not any(page.name in font.pages and (
+                page.name in empty or mapped(font.whole, page.letters)) for page in pages):
             raise Refused(f"{font.settings.file}: it maps no character of its pages")
         if not wishes:
             run.said.append(f"font {number}, {font.settings.file}: no page draws text in it: nothing is made of it")

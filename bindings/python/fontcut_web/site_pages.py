@@ -36,8 +36,9 @@ class SitePage(NamedTuple):
 
     @property
     def is_empty(self) -> bool:
-        """Whether nothing is drawn of the page, and nothing is written to it."""
-        return not self.shown.text.replace("\0", "").strip() and not self.written.every
+        """Whether nothing is drawn of the page, and nothing is written to it, as far as all of that is known."""
+        is_shown = bool(self.shown.text.replace("\0", "").strip())
+        return not (is_shown or self.shown.unknown or self.written.every)
 
     def without_letters(self) -> SitePage:
         """The page as a font shows it that has no letters of languages."""
