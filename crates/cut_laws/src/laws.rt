@@ -1,0 +1,17 @@
+//! Laws of cuts: the contract of each function is what it says.
+ghost use Rattle.cut_laws.specs.Laws.{ClosedCutIsPlain, CutIsGivenBack, OwnCutIsRenewed};
+
+/// The cut of a file for the codes that it maps and the glyphs that it keeps of itself is the file written anew.
+pub fn own_cut_is_renewed()
+    ensures { OwnCutIsRenewed }
+{}
+
+/// So these give a current cut back, byte for byte.
+pub fn cut_is_given_back()
+    ensures { CutIsGivenBack }
+{}
+
+/// The cut for a closure is, without links, the closed cut.
+pub fn closed_cut_is_plain()
+    ensures { ClosedCutIsPlain }
+{}
