@@ -1,1 +1,4 @@
+pub mod DropByteLemmas
+pub mod DropFontLemmas
+pub mod DropTableLemmas
 pub mod ListedLemmas

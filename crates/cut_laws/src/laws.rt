@@ -1,4 +1,5 @@
 //! Laws of cuts: the contract of each function is what it says.
+ghost use Rattle.cut_laws.specs.Dropping.{DroppingKeepsCut, DroppingKeepsFault};
 ghost use Rattle.cut_laws.specs.Laws.{ClosedCutIsPlain, CutIsGivenBack, OwnCutIsRenewed};
 
 /// The cut of a file for the codes that it maps and the glyphs that it keeps of itself is the file written anew.
@@ -14,4 +15,15 @@ pub fn cut_is_given_back()
 /// The cut for a closure is, without links, the closed cut.
 pub fn closed_cut_is_plain()
     ensures { ClosedCutIsPlain }
+{}
+
+/// A font without tables that no cut has to have is accepted, or refused, as it was, where no table that stays begins
+/// within the directory.
+pub fn dropping_keeps_fault()
+    ensures { DroppingKeepsFault }
+{}
+
+/// So are its cuts of a kind, byte for byte, where the kind has none of the tables that go.
+pub fn dropping_keeps_cut()
+    ensures { DroppingKeepsCut }
 {}

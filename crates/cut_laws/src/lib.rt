@@ -3,4 +3,7 @@
 
 mod laws;
 
-pub use crate::laws::{closed_cut_is_plain, cut_is_given_back, own_cut_is_renewed};
+pub use crate::laws::{
+    closed_cut_is_plain, cut_is_given_back, dropping_keeps_cut, dropping_keeps_fault,
+    own_cut_is_renewed,
+};
