@@ -1,4 +1,5 @@
 pub mod DropByteLemmas
+pub mod DropCutLemmas
 pub mod DropFontLemmas
 pub mod DropTableLemmas
 pub mod ListedLemmas
