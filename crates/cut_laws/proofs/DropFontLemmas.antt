@@ -29,7 +29,7 @@ use Rattle.font_file.specs.Font.{cmap_of, font_fault, font_lines, glyph_lines, i
 use Rattle.font_file.specs.declared.font_error.FontError.TheVariants.{BadGlyph, Directory, Mapping, Tables}
 use Rattle.font_theory.proofs.TagLemmas.{slot_tag-kept}
 use Rattle.commands.specs.Drop.{without_tables}
-use Rattle.cut_laws.specs.Dropping.{DroppingKeepsFault, StayBelow}
+use Rattle.cut_laws.specs.Dropping.{DroppingKeepsFault, KeptStay}
 use Rattle.cut_laws.proofs.DropByteLemmas.{length-without}
 use Rattle.cut_laws.proofs.DropTableLemmas.{is_duplicate-without, is_outside-without, same_tag-blanks}
 use Rattle.cut_laws.proofs.DropTableLemmas.{table-without, table_count-without, version-without}
@@ -41,7 +41,7 @@ find-same p q [] d same = refl
 find-same p q (x ∷ xs) d same =
     (λ i. cond (same 0 (omega arith) i) (Some x) (find-same p q xs d (λ k low. same (suc k) (omega (arith, low))) i))
 
-module _ (tags : List Tag) (file : List ℕ) (fits : HasRecords file) (stay : StayBelow SLOTS tags file) where
+module _ (tags : List Tag) (file : List ℕ) (fits : HasRecords file) (stay : KeptStay tags file) where
   abbrev made : List ℕ
   made = without_tables tags file
 

@@ -1,12 +1,13 @@
 -- Laws of a font without some of its tables, this project's own, each of them the contract of a function.
-use Rattle.std.specs.Prelude.{◌≡◌, ℕ, ◌+◌, ◌*◌, ◌<◌, ◌≤◌, List, false, IfSome}
+use Rattle.std.specs.Prelude.{◌≡◌, ◌≢◌, ℕ, ◌+◌, ◌*◌, ◌<◌, ◌≤◌, List, false, IfSome}
 use Rattle.sfnt_bytes.specs.Directory.{HasRecords, slot_tag, table_count, table_entry}
 use Rattle.sfnt_bytes.specs.declared.tag.Tag.{Tag}
-use Rattle.sfnt_bytes.specs.declared.tag.TheConstants.{ALL_SLOTS, FIRST_VARIATION, SLOTS}
+use Rattle.sfnt_bytes.specs.declared.tag.TheConstants.{ALL_SLOTS, SLOTS}
 use Rattle.font_file.specs.Font.{font_fault}
 use Rattle.font_theory.specs.Content.{Wanted}
+use Rattle.font_theory.specs.Kinds.{settings}
+use Rattle.font_theory.specs.Kinds.Reading.{absent}
 use Rattle.font_theory.specs.declared.kinds.Kind.{Kind}
-use Rattle.font_theory.specs.declared.kinds.Kind.TheVariants.{Full, Layout, Lean, Variable}
 use Rattle.font_subset.specs.CutOfKind.{cut_of}
 use Rattle.commands.specs.Drop.{is_tag_among, without_tables}
 
@@ -15,25 +16,23 @@ pub record Stays (tags : List Tag) (file : List ℕ) (tag : Tag) : Type 0 where
   pub named : is_tag_among tags tag ≡ false
   pub past : IfSome (table_entry file tag) (λ entry. 12 + 16 * table_count file ≤ entry.offset)
 
--- so do the tables of the slots below a given one
-abbrev pub StayBelow : ℕ → List Tag → List ℕ → Type 0
-StayBelow slots tags file = (slot : ℕ) → slot < slots → Stays tags file (slot_tag slot)
+-- so do the tables that every cut keeps
+abbrev pub KeptStay : List Tag → List ℕ → Type 0
+KeptStay tags file = (slot : ℕ) → slot < SLOTS → Stays tags file (slot_tag slot)
 
--- the slots that cuts of a kind have are those below it
-abbrev pub slots_of : Kind → ℕ
-slots_of Full = SLOTS
-slots_of Lean = SLOTS
-slots_of Layout = FIRST_VARIATION
-slots_of Variable = ALL_SLOTS
+-- so do those that cuts of a kind read
+abbrev pub ReadStay : Kind → List Tag → List ℕ → Type 0
+ReadStay kind tags file =
+    (slot : ℕ) → slot < ALL_SLOTS → (settings kind).reading slot ≢ absent → Stays tags file (slot_tag slot)
 
 -- what goes beside the tables that every cut keeps does not matter to whether a font is accepted, and to why not
 abbrev pub DroppingKeepsFault : Type 0
 DroppingKeepsFault =
-    (tags : List Tag) (file : List ℕ) → HasRecords file → StayBelow SLOTS tags file
+    (tags : List Tag) (file : List ℕ) → HasRecords file → KeptStay tags file
     → font_fault (without_tables tags file) ≡ font_fault file
 
 -- and what goes beside the tables of a kind does not matter to its cuts
 abbrev pub DroppingKeepsCut : Type 0
 DroppingKeepsCut =
-    (kind : Kind) (tags : List Tag) (file : List ℕ) → HasRecords file → StayBelow (slots_of kind) tags file
+    (kind : Kind) (tags : List Tag) (file : List ℕ) → HasRecords file → KeptStay tags file → ReadStay kind tags file
     → (W : Wanted) → cut_of kind (without_tables tags file) W ≡ cut_of kind file W
