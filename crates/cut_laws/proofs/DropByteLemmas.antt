@@ -1,6 +1,6 @@
 -- The bytes of a file without some of its tables.
-use Rattle.std.proofs.Common.{◌≡◌, ◌∙◌, ℕ, zero, suc, ◌+◌, ◌-◌, ◌*◌, ◌<◌, ◌≤◌, Bool, true, false, cond, List, [], ◌∷◌, ◌++◌}
-use Rattle.std.proofs.Common.{ap, refl, subst, sym, arith, codes, length, take, drop, get_or, slice_range}
+use Rattle.std.proofs.Common.{◌≡◌, ◌∙◌, ℕ, zero, suc, ◌+◌, ◌-◌, ◌*◌, ◌<◌, ◌≤◌, Bool, true, false, cond, List, ◌++◌}
+use Rattle.std.proofs.Common.{ap, refl, arith, codes, length, drop, get_or, slice_range}
 use Rattle.std.specs.List.{flat_map, range_with_len}
 use Rattle.std.proofs.lemmas.List.{length-append, length-drop, length-take, drop-drop, get_or-append-add, get_or-drop}
 use Rattle.std.proofs.lemmas.List.{get_or-take, get_or_append_left, take_rest}

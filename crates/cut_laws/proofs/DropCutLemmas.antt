@@ -1,24 +1,20 @@
 -- A font without tables that cuts of a kind do not have has the same cuts of the kind.
-use Rattle.std.proofs.Common.{◌≡◌, ◌≢◌, ◌∙◌, ℕ, ◌<◌, ◌≤◌, ◌⊎◌, inl, inr, Bool, true, false, cond, List, [], Some, None}
+use Rattle.std.proofs.Common.{◌≡◌, ◌≢◌, ◌∙◌, ℕ, ◌<◌, ◌≤◌, ◌⊎◌, inl, inr, cond, List, []}
 use Rattle.std.proofs.Common.{ap, refl, sym, arith, nat_le, nat_lt}
 use Rattle.std.proofs.lemmas.Bool.{le-leb, or_right}
-use Rattle.std.proofs.Math.Path.{fun_ext}
 use Rattle.sfnt_bytes.specs.Directory.{HasRecords, slot_tag, table_of}
 use Rattle.sfnt_bytes.specs.declared.tag.Tag.{Tag}
-use Rattle.sfnt_bytes.specs.declared.tag.TheConstants.{ALL_SLOTS, FIRST_VARIATION, SLOTS}
-use Rattle.font_file.specs.Font.{map_of}
+use Rattle.sfnt_bytes.specs.declared.tag.TheConstants.{ALL_SLOTS}
 use Rattle.font_map.specs.Mapping.{mapping_of}
 use Rattle.font_theory.specs.Bytes.{cut_head}
-use Rattle.font_theory.specs.Content.{Font, content, is_made, is_never_copied, is_never_in_layout, plain_font}
-use Rattle.font_theory.specs.Cut.{cut}
+use Rattle.font_theory.specs.Content.{Font, content, plain_font}
 use Rattle.font_theory.specs.Kinds.Reading.{absent, as_it_is, unvarying}
 use Rattle.font_theory.specs.Kinds.{Reading}
 use Rattle.font_theory.proofs.KindLemmas.{settings-are}
-use Rattle.font_theory.specs.Kinds.{font_by, font_of, format_by, format_of, full_settings, layout_settings}
-use Rattle.font_theory.specs.Kinds.{lean_settings, read_by, settings, tables_by, tables_of, there_by, variable_settings}
+use Rattle.font_theory.specs.Kinds.{font_of, format_by, format_of}
+use Rattle.font_theory.specs.Kinds.{read_by, settings, tables_of, there_by}
 use Rattle.font_theory.specs.Parting.{divided}
 use Rattle.font_theory.specs.declared.kinds.Kind.{Kind}
-use Rattle.font_theory.specs.declared.kinds.Kind.TheVariants.{Full, Layout, Lean, Variable}
 use Rattle.commands.specs.Drop.{without_tables}
 use Rattle.cut_laws.specs.Dropping.{DroppingKeepsCut, KeptStay, ReadStay}
 use Rattle.cut_laws.proofs.DropFontLemmas.{cmap-without, count-without, head-without, outline-without}

@@ -1,15 +1,11 @@
 -- A font without tables that no cut has to have is refused as it was, and has the same cuts.
-use Rattle.std.proofs.Common.{◌≡◌, ◌∙◌, ℕ, zero, suc, ◌+◌, ◌<◌, ◌≤◌, Bool, true, false, cond, List, [], ◌∷◌, ◌++◌, Some, None, ◌||◌, ◌&&◌, ◌*◌}
-use Rattle.std.proofs.Common.{ap, refl, sym, arith, length, map, find, not, nat_lt, nat_le, get_or, unwrap_or, Option, nat_eq}
+use Rattle.std.proofs.Common.{◌≡◌, ◌∙◌, ℕ, suc, ◌+◌, ◌<◌, Bool, cond, List, [], ◌∷◌, ◌++◌, Some, None, ◌||◌, ◌&&◌, ◌*◌}
+use Rattle.std.proofs.Common.{ap, refl, sym, arith, length, map, find, not, nat_lt, get_or, unwrap_or, nat_eq}
 use Rattle.std.specs.List.{range_with_len}
 use Rattle.std.specs.Option.{is_none, option_map}
-use Rattle.std.proofs.lemmas.Bool.{lt-ltb}
-use Rattle.std.proofs.Math.Path.{fun_ext}
 use Rattle.sfnt_bytes.specs.Directory.{HasRecords, kept_tag, slot_tag, table_of}
 use Rattle.sfnt_bytes.specs.Lines.{first_of_lines, when}
-use Rattle.sfnt_bytes.specs.Number.{u32_at}
-use Rattle.sfnt_bytes.specs.Refusals.{directory_lines, is_collection, is_duplicate, is_outside, is_truetype}
-use Rattle.sfnt_bytes.specs.declared.directory.DirError.{DirError}
+use Rattle.sfnt_bytes.specs.Refusals.{directory_lines, is_duplicate, is_outside}
 use Rattle.sfnt_bytes.specs.declared.directory.DirError.TheVariants as directories
 use Rattle.sfnt_bytes.specs.declared.directory.TheConstants.{MAX_FILE}
 use Rattle.sfnt_bytes.specs.declared.tag.Tag.{Tag}
@@ -20,12 +16,11 @@ use Rattle.font_tables.specs.Outlines.{outline_in, outline_of}
 use Rattle.font_tables.specs.Refusals.{is_bad_head, is_bad_hhea, is_bad_hmtx, is_bad_maxp, is_bad_offset, is_missing}
 use Rattle.font_tables.specs.Refusals.{table_lines}
 use Rattle.font_tables.specs.declared.tables.TableError.TheVariants as tables
-use Rattle.font_tables.specs.Tables.{cmap_tag, glyf_of, glyf_tag, head_of, head_tag, hhea_of, hhea_tag, hmtx_of, hmtx_tag}
-use Rattle.font_tables.specs.Tables.{loca_of, loca_tag, maxp_of, maxp_tag, required_tags, table_or_empty}
+use Rattle.font_tables.specs.Tables.{cmap_tag, glyf_tag, head_of, head_tag, hhea_tag, hmtx_tag}
+use Rattle.font_tables.specs.Tables.{loca_tag, maxp_tag, required_tags, table_or_empty}
 use Rattle.font_tables.proofs.SlotLemmas.{are_slots}
-use Rattle.font_map.specs.Mapping.{mapping_of}
 use Rattle.font_map.specs.Refusals.{map_lines}
-use Rattle.font_file.specs.Font.{cmap_of, font_fault, font_lines, glyph_lines, is_bad_glyph, is_record, map_of}
+use Rattle.font_file.specs.Font.{cmap_of, font_fault, glyph_lines, is_bad_glyph, is_record}
 use Rattle.font_file.specs.declared.font_error.FontError.TheVariants.{BadGlyph, Directory, Mapping, Tables}
 use Rattle.font_theory.proofs.TagLemmas.{slot_tag-kept}
 use Rattle.commands.specs.Drop.{without_tables}
@@ -133,7 +128,7 @@ module _ (tags : List Tag) (file : List ℕ) (fits : HasRecords file) (stay : Ke
       let truetype = nat_eq version 0x00010000 || nat_eq version 0x74727565 in
       when (nat_lt MAX_FILE size) directories.FileTooLarge
       ∷ when (nat_lt size 12 || (truetype && nat_lt size (12 + 16 * table_count-without tags file fits i)))
-          directories.Truncated
+      directories.Truncated
       ∷ when (nat_eq version 0x74746366) directories.Collection
       ∷ when (not truetype) directories.NotTrueType
       ∷ option_map directories.DuplicateTable (duplicates i)
@@ -156,8 +151,8 @@ module _ (tags : List Tag) (file : List ℕ) (fits : HasRecords file) (stay : Ke
       ∷ when (is_bad_hhea (or_empty hhea_tag hhea-table i) (count-without i)) tables.BadHhea
       ∷ when (is_bad_hmtx (or_empty hmtx_tag hmtx-table i) (metrics-without i) (count-without i)) tables.BadHmtx
       ∷ option_map tables.BadLoca
-          (find (λ j. is_bad_offset (form-without i) (or_empty loca_tag loca-table i) (length (or_empty glyf_tag glyf-table i)) j)
-          (range_with_len 0 (count-without i + 1)))
+      (find (λ j. is_bad_offset (form-without i) (or_empty loca_tag loca-table i) (length (or_empty glyf_tag glyf-table i)) j)
+      (range_with_len 0 (count-without i + 1)))
       ∷ []
 
   glyphs-same : glyph_lines made ≡ glyph_lines file

@@ -1,13 +1,13 @@
 -- The records and the tables of a file without some of its tables: those that stay are what they were.
 use Rattle.std.proofs.Common.{◌≡◌, ◌∙◌, ℕ, zero, suc, ◌+◌, ◌-◌, ◌*◌, ◌<◌, ◌≤◌, Bool, true, false, cond, List, [], ◌∷◌, Some, None}
-use Rattle.std.proofs.Common.{ap, refl, subst, sym, arith, codes, get_or, length, take, map, find, not, nat_lt, Option}
-use Rattle.std.specs.List.{count_by, list_any, range_with_len}
+use Rattle.std.proofs.Common.{ap, refl, subst, sym, arith, codes, get_or, take, map, find, not, nat_lt, Option}
+use Rattle.std.specs.List.{count_by, range_with_len}
 use Rattle.std.specs.Option.{option_map, option_map_or}
 use Rattle.std.specs.Prelude.{IfSome, nat_le}
 use Rattle.std.proofs.lemmas.Bool.{agree_below_at, both_ways}
 use Rattle.std.proofs.lemmas.List.Sums.{sum_by-cons}
 use Rattle.std.proofs.lemmas.Slice.Eq.{bytes_eq-Decides}
-use Rattle.sfnt_bytes.specs.Directory.{HasRecords, entry_at, has_tag, is_within, kept_tag, records_of, slot_tag, table_bytes}
+use Rattle.sfnt_bytes.specs.Directory.{HasRecords, entry_at, has_tag, kept_tag, records_of, slot_tag, table_bytes}
 use Rattle.sfnt_bytes.specs.Directory.{table_count, table_entry, table_of, tag_at}
 use Rattle.sfnt_bytes.specs.Number.{number, u16_at, u32_at}
 use Rattle.sfnt_bytes.specs.Refusals.{is_duplicate, is_outside}
@@ -146,7 +146,7 @@ module _ (tags : List Tag) (file : List ℕ) (fits : HasRecords file) where
     unfolding entry_at
     pair k low true e = (
       ap (λ t. same_tag t tag) (tag-gone k low e) ∙ letters ∙ sym (not_gone k e),
-      λ h. absurd (both_ways _ (not_gone k e) h)
+      λ h. absurd (both_ways _ (not_gone k e) h),
     )
     pair k low false e = (ap (has_tag tag) (entry-same k low e), λ _. entry-same k low e)
 

@@ -3,3 +3,4 @@ pub mod DropCutLemmas
 pub mod DropFontLemmas
 pub mod DropTableLemmas
 pub mod ListedLemmas
+pub mod TextLemmas

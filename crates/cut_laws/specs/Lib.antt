@@ -1,2 +1,3 @@
 pub mod Dropping
 pub mod Laws
+pub mod Texts

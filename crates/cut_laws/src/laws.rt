@@ -1,6 +1,7 @@
 //! Laws of cuts: the contract of each function is what it says.
 ghost use Rattle.cut_laws.specs.Dropping.{DroppingKeepsCut, DroppingKeepsFault};
 ghost use Rattle.cut_laws.specs.Laws.{ClosedCutIsPlain, CutIsGivenBack, OwnCutIsRenewed};
+ghost use Rattle.cut_laws.specs.Texts.{TextsAreShort};
 
 /// The cut of a file for the codes that it maps and the glyphs that it keeps of itself is the file written anew.
 pub fn own_cut_is_renewed()
@@ -26,4 +27,9 @@ pub fn dropping_keeps_fault()
 /// So are its cuts of a kind, byte for byte, where the kind has none of the tables that go.
 pub fn dropping_keeps_cut()
     ensures { DroppingKeepsCut }
+{}
+
+/// The text of each refusal, of a font, of files and of codes, has at most 64 bytes.
+pub fn texts_are_short()
+    ensures { TextsAreShort }
 {}

@@ -5,5 +5,5 @@ mod laws;
 
 pub use crate::laws::{
     closed_cut_is_plain, cut_is_given_back, dropping_keeps_cut, dropping_keeps_fault,
-    own_cut_is_renewed,
+    own_cut_is_renewed, texts_are_short,
 };
