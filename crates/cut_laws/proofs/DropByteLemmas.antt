@@ -22,6 +22,10 @@ module _ (tags : List Tag) (file : List ℕ) (fits : HasRecords file) where
   abbrev end : ℕ
   end = 12 + 16 * count
 
+  -- the tag of a record at a place, or blanks
+  abbrev tag_bytes : ℕ → List ℕ
+  tag_bytes at = cond (is_tag_among tags (tag_at file at)) (codes "    ") (slice_range file at (at + 4))
+
   -- a record has 16 bytes
   front_length : (b : Bool) (at : ℕ) → at + 4 ≤ length file
       → length (cond b (codes "    ") (slice_range file at (at + 4))) ≡ 4
@@ -37,7 +41,7 @@ module _ (tags : List Tag) (file : List ℕ) (fits : HasRecords file) where
       let f = front_length (is_tag_among tags (tag_at file at)) at (omega (arith, whole)) in
       let d = length-drop (at + 4) file in
       let t = length-take (at + 16 - (at + 4)) (drop (at + 4) file) in
-      length-append (cond (is_tag_among tags (tag_at file at)) (codes "    ") (slice_range file at (at + 4))) _
+      length-append (tag_bytes at) _
       ∙ omega (arith, f, d, t, whole)
 
   records_length : (k m : ℕ) → k + m ≤ count → length (flat_map record_at (range_with_len k m)) ≡ 16 * m
@@ -132,18 +136,20 @@ module _ (tags : List Tag) (file : List ℕ) (fits : HasRecords file) where
       → get_or (cond b (codes "    ") (slice_range file at (at + 4))) i 0
       ≡ cond b (get_or (codes "    ") i 0) (get_or file (at + i) 0)
   front_byte true at i low = refl
-  front_byte false at i low = get_or-take (at + 4 - at) (drop at file) i 0 (omega (arith, low)) ∙ get_or-drop at file i 0
+  front_byte false at i low = get_or-take (at + 4 - at) (drop at file) i 0 (omega (arith, low))
+      ∙ get_or-drop at file i 0
 
   -- of a tag that goes blanks stand there, and otherwise the tag
   pub tag_byte-without : (k i : ℕ) → k < table_count file → i < 4
       → get_or (without_tables tags file) (12 + 16 * k + i) 0
-      ≡ cond (is_tag_among tags (tag_at file (12 + 16 * k))) (get_or (codes "    ") i 0) (get_or file (12 + 16 * k + i) 0)
+      ≡ cond (is_tag_among tags (tag_at file (12 + 16 * k))) (get_or (codes "    ") i 0)
+      (get_or file (12 + 16 * k + i) 0)
   unfolding record_without
   tag_byte-without k i low small =
       let at = 12 + 16 * k in
       let f = front_length (is_tag_among tags (tag_at file at)) at (omega (arith, fits, low)) in
       byte-without k i low (omega (arith, small))
-      ∙ get_or_append_left (cond (is_tag_among tags (tag_at file at)) (codes "    ") (slice_range file at (at + 4))) _ 0 i
+      ∙ get_or_append_left (tag_bytes at) _ 0 i
       (omega (arith, f, small))
       ∙ front_byte (is_tag_among tags (tag_at file at)) at i small
 
@@ -156,13 +162,13 @@ module _ (tags : List Tag) (file : List ℕ) (fits : HasRecords file) where
       let i = p - at - 4 in
       let f = front_length (is_tag_among tags (tag_at file at)) at (omega (arith, fits, low)) in
       let place : p ≡ 12 + 16 * k + (p - at) = omega (arith, from) in
-      let inner : p - at ≡ length (cond (is_tag_among tags (tag_at file at)) (codes "    ") (slice_range file at (at + 4))) + i =
+      let inner : p - at ≡ length (tag_bytes at) + i =
       omega (arith, f, from) in
       let back : at + 4 + i ≡ p = omega (arith, from) in
       ap (λ n. get_or (without_tables tags file) n 0) place
       ∙ byte-without k (p - at) low (omega (arith, small, from))
       ∙ ap (λ n. get_or (record_at k) n 0) inner
-      ∙ get_or-append-add (cond (is_tag_among tags (tag_at file at)) (codes "    ") (slice_range file at (at + 4))) _ i 0
+      ∙ get_or-append-add (tag_bytes at) _ i 0
       ∙ get_or-take (at + 16 - (at + 4)) (drop (at + 4) file) i 0 (omega (arith, small, from))
       ∙ get_or-drop (at + 4) file i 0
       ∙ ap (λ n. get_or file n 0) back

@@ -30,7 +30,8 @@ use Rattle.cut_laws.proofs.DropTableLemmas.{is_duplicate-without, is_outside-wit
 use Rattle.cut_laws.proofs.DropTableLemmas.{table-without, table_count-without, version-without}
 
 -- what is found in a list is the same where two tests answer alike
-find-same : (p q : Tag → Bool) (xs : List Tag) (d : Tag) → ((k : ℕ) → k < length xs → p (get_or xs k d) ≡ q (get_or xs k d))
+find-same : (p q : Tag → Bool) (xs : List Tag) (d : Tag)
+    → ((k : ℕ) → k < length xs → p (get_or xs k d) ≡ q (get_or xs k d))
     → find p xs ≡ find q xs
 find-same p q [] d same = refl
 find-same p q (x ∷ xs) d same =
@@ -98,7 +99,8 @@ module _ (tags : List Tag) (file : List ℕ) (fits : HasRecords file) (stay : Ke
 
   pub outline-without : outline_of (without_tables tags file) ≡ outline_of file
   unfolding outline_of
-  outline-without = λ i g. outline_in (form-without i) (or_empty loca_tag loca-table i) (or_empty glyf_tag glyf-table i) g
+  outline-without = λ i g.
+      outline_in (form-without i) (or_empty loca_tag loca-table i) (or_empty glyf_tag glyf-table i) g
 
   duplicates : find (is_duplicate made) KEPT ≡ find (is_duplicate file) KEPT
   unfolding kept_tag slot_tag
@@ -151,7 +153,8 @@ module _ (tags : List Tag) (file : List ℕ) (fits : HasRecords file) (stay : Ke
       ∷ when (is_bad_hhea (or_empty hhea_tag hhea-table i) (count-without i)) tables.BadHhea
       ∷ when (is_bad_hmtx (or_empty hmtx_tag hmtx-table i) (metrics-without i) (count-without i)) tables.BadHmtx
       ∷ option_map tables.BadLoca
-      (find (λ j. is_bad_offset (form-without i) (or_empty loca_tag loca-table i) (length (or_empty glyf_tag glyf-table i)) j)
+      (find (λ j. is_bad_offset (form-without i) (or_empty loca_tag loca-table i)
+      (length (or_empty glyf_tag glyf-table i)) j)
       (range_with_len 0 (count-without i + 1)))
       ∷ []
 

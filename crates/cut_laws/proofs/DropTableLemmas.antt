@@ -1,5 +1,6 @@
 -- The records and the tables of a file without some of its tables: those that stay are what they were.
-use Rattle.std.proofs.Common.{◌≡◌, ◌∙◌, ℕ, zero, suc, ◌+◌, ◌-◌, ◌*◌, ◌<◌, ◌≤◌, Bool, true, false, cond, List, [], ◌∷◌, Some, None}
+use Rattle.std.proofs.Common.{◌≡◌, ◌∙◌, ℕ, zero, suc, ◌+◌, ◌-◌, ◌*◌, ◌<◌, ◌≤◌, Bool, true, false, cond, List, [], ◌∷◌}
+use Rattle.std.proofs.Common.{Some, None}
 use Rattle.std.proofs.Common.{ap, refl, subst, sym, arith, codes, get_or, take, map, find, not, nat_lt, Option}
 use Rattle.std.specs.List.{count_by, range_with_len}
 use Rattle.std.specs.Option.{option_map, option_map_or}
@@ -79,7 +80,8 @@ module _ (tags : List Tag) (file : List ℕ) (fits : HasRecords file) where
   number-same : (k at : ℕ) → k < table_count file → 12 + 16 * k + 4 ≤ at → at + 4 ≤ 12 + 16 * k + 16
       → u32_at made at ≡ u32_at file at
   number-same k at low from to = same_number at
-      (λ i past below. number_byte-without tags file fits k i low (omega (arith, from, past)) (omega (arith, to, below)))
+      (λ i past below. number_byte-without tags file fits k i low (omega (arith, from, past))
+      (omega (arith, to, below)))
 
   tag_byte-same : (k i : ℕ) → k < table_count file → gone k ≡ false → i < 4
       → get_or made (12 + 16 * k + i) 0 ≡ get_or file (12 + 16 * k + i) 0
@@ -155,7 +157,8 @@ module _ (tags : List Tag) (file : List ℕ) (fits : HasRecords file) where
     entry-without =
         ap (λ n. find (has_tag tag) (map (entry_at made) (range_with_len 0 n))) table_count-without
         ∙ find-alike (has_tag tag) (entry_at made) (entry_at file) (table_count file)
-        (λ k low. (pair k low (gone k) refl).0) (λ k low. (pair k low (gone k) refl).1) 0 (table_count file) (omega arith)
+        (λ k low. (pair k low (gone k) refl).0) (λ k low. (pair k low (gone k) refl).1) 0 (table_count file)
+        (omega arith)
 
     pub is_duplicate-without : is_duplicate (without_tables tags file) tag ≡ is_duplicate file tag
     unfolding is_duplicate records_of
@@ -163,7 +166,8 @@ module _ (tags : List Tag) (file : List ℕ) (fits : HasRecords file) where
         ap (nat_lt 1)
         (ap (λ n. count_by (has_tag tag) (map (entry_at made) (range_with_len 0 n))) table_count-without
         ∙ count-alike (has_tag tag) (entry_at made) (entry_at file) (table_count file)
-        (λ k low. (pair k low (gone k) refl).0) (λ k low. (pair k low (gone k) refl).1) 0 (table_count file) (omega arith))
+        (λ k low. (pair k low (gone k) refl).0) (λ k low. (pair k low (gone k) refl).1) 0 (table_count file)
+        (omega arith))
 
     pub is_outside-without : is_outside (without_tables tags file) tag ≡ is_outside file tag
     unfolding is_outside

@@ -1,5 +1,6 @@
 -- The texts of refusals are short.
-use Rattle.std.proofs.Common.{◌≡◌, ℕ, zero, suc, ◌+◌, ◌*◌, ◌/◌, ◌%◌, ◌^◌, ◌<◌, ◌≤◌, Bool, true, false, cond, List, ◌∷◌, ◌++◌}
+use Rattle.std.proofs.Common.{◌≡◌, ℕ, zero, suc, ◌+◌, ◌*◌, ◌/◌, ◌%◌, ◌^◌, ◌<◌, ◌≤◌, Bool, true, false, cond, List}
+use Rattle.std.proofs.Common.{◌∷◌, ◌++◌}
 use Rattle.std.proofs.Common.{[], ap, refl, arith, codes, length, nat_eq, nat_le, nat_lt}
 use Rattle.std.specs.Fmt.{digit_glyph, digits, digits_onto}
 use Rattle.std.specs.List.{list_all}
@@ -30,7 +31,8 @@ use Rattle.font_join.specs.declared.join_error.JoinAllError.TheVariants.{At, Not
 use Rattle.font_join.specs.declared.join_error.JoinError.{JoinError}
 use Rattle.font_join.specs.declared.join_error.JoinError.TheVariants as joins
 use Rattle.font_join.specs.declared.join_error.Which.TheVariants.{First, Second}
-use Rattle.cut_laws.specs.Texts.{IsTag, NamesInDirectory, NamesInFont, NamesInJoin, NamesInList, NamesInTables, TextsAreShort}
+use Rattle.cut_laws.specs.Texts.{IsTag, NamesInDirectory, NamesInFont, NamesInJoin, NamesInList, NamesInTables}
+use Rattle.cut_laws.specs.Texts.{TextsAreShort}
 
 -- words of at most 44 bytes, and a name of at most 20 after them
 words : (a b : List ℕ) → nat_le (length a) 44 ≡ true → length b ≤ 20 → length (a ++ b) ≤ 64
@@ -79,7 +81,8 @@ code-short code small = by_test (nat_lt code 0x10) (nat_lt code 0x100) (nat_lt c
     few : length (digits 16 true code) ≤ 8
     few = hex-digits 7 64 code [] (omega (arith, small))
 
-    by_test : (a b c : Bool) → length (cond a (codes "000" ++ digits 16 true code) (cond b (codes "00" ++ digits 16 true code)
+    by_test : (a b c : Bool) → length (cond a (codes "000" ++ digits 16 true code)
+        (cond b (codes "00" ++ digits 16 true code)
         (cond c (codes "0" ++ digits 16 true code) (digits 16 true code)))) ≤ 20
     by_test true b c = omega (arith, length-append (codes "000") (digits 16 true code), few)
     by_test false true c = omega (arith, length-append (codes "00") (digits 16 true code), few)
