@@ -4,11 +4,10 @@ from __future__ import annotations
 import functools
 import os
 import re
-from typing import Dict, Iterator, List, NamedTuple, Sequence, Tuple
+from typing import Dict, Iterable, Iterator, List, NamedTuple, Sequence, Tuple
 
 from .rules import STRING, rules_of, unescaped
-from .site_pages import SitePage
-from .styles import parts_of, sheets_of
+from .styles import StyleSheet, parts_of
 
 _RULE = "@font-face"
 _ADDRESS = re.compile(rf"url\(\s*({STRING}|[^)\s]*)\s*\)", re.I)
@@ -21,6 +20,10 @@ class OwnFace(NamedTuple):
     family: str
     files: Tuple[str, ...]
     is_bounded: bool
+
+
+# A rule, with the path of its style sheet.
+Placed = Tuple[str, OwnFace]
 
 
 def stem(path: str) -> str:
@@ -50,11 +53,15 @@ def _faces(sheet: str) -> List[OwnFace]:
     return [_face(rule.declarations) for rule in rules_of(sheet) if rule.selectors.prelude.lower() == _RULE]
 
 
-def told(file: str, family: str, pages: Sequence[SitePage], folder: str) -> Iterator[str]:
-    """What is said of the font in a file, of this family, which style sheets of pages of the site in a folder load
-    themselves."""
-    found = {(os.path.relpath(sheet.path, folder), face) for page in pages
-             for sheet in sheets_of(page.page, page.path)[0] for face in _faces(sheet.text) if stem(file) in face.files}
+def faces_of(sheets: Sequence[StyleSheet]) -> List[Placed]:
+    """The rules of style sheets."""
+    return [(sheet.path, face) for sheet in sheets for face in _faces(sheet.text)]
+
+
+def told(file: str, family: str, faces: Iterable[Placed], folder: str) -> Iterator[str]:
+    """What is said of the font in a file, of this family, which style sheets of the site in a folder load by such
+    rules."""
+    found = {(os.path.relpath(path, folder), face) for path, face in faces if stem(file) in face.files}
     for sheet, face in sorted(found):
         if face.family and face.family.lower() != family.lower():
             yield f'{sheet} calls this font "{face.family}": set family = "{face.family}"'

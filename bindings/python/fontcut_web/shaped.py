@@ -98,6 +98,8 @@ def own_sets(data: bytes, words: str) -> List[Features]:
     """The features of a font that substitute glyphs and that a list keeps beside those that browsers use unasked, each
     by itself."""
     asked = preparing.features_of(words)
+    if asked is not None and set(asked) <= set(preparing.default_features()):
+        return []
     try:
         known = _substitutions(TTFont(io.BytesIO(data), lazy=True))
     except MALFORMED:

@@ -6,6 +6,7 @@ from typing import Dict, Iterator, List, NamedTuple, Sequence, Set
 
 import fontcut
 
+from . import own_faces
 from .feature_sets import MOST, feature_sets
 from .matching import matching_of
 from .pages import Page, lines_of, shown
@@ -42,16 +43,19 @@ class Shown(NamedTuple):
 
 
 class Read(NamedTuple):
-    """What the style sheets of a page say of its elements, and the addresses of those that are no files beside it."""
+    """What the style sheets of a page say of its elements, the addresses of those that are no files beside it, and the
+    rules by which they load fonts."""
 
     styles: Styles
     lost: List[str]
+    faces: List[own_faces.Placed]
 
 
 def read_styles(page: Page, path: str) -> Read:
     """Reads the style sheets of a page in a file."""
     sheets, lost = sheets_of(page, path)
-    return Read(styles_of(sheets, page.attributes.get("style", ()), page.languages, matching_of(page, path)), lost)
+    return Read(styles_of(sheets, page.attributes.get("style", ()), page.languages, matching_of(page, path)), lost,
+                own_faces.faces_of(sheets))
 
 
 class Additions(NamedTuple):
@@ -83,7 +87,7 @@ def shown_by(page: Page, path: str, read: Read, more: Sequence[Features] = (), t
              ) -> Shown:
     """What a page in a file shows, with its style sheets, with more sets of features, and with more text. The text of
     one that has all has what browsers add."""
-    styles, lost = read
+    styles, lost, _ = read
     added = [] if is_all else [one.text for one in _added(page, styles)]
     blocks = [*page.blocks, *lines_of("\n".join([*added, text]))]
     blocks += [other for case in styles.cases for block in blocks for other in cased(block, case, page.languages)]
