@@ -1,24 +1,34 @@
 -- A font without tables that cuts of a kind do not have has the same cuts of the kind.
-use Rattle.std.proofs.Common.{◌≡◌, ◌≢◌, ◌∙◌, ℕ, ◌<◌, ◌≤◌, ◌⊎◌, inl, inr, cond, List, []}
-use Rattle.std.proofs.Common.{ap, refl, sym, arith, nat_le, nat_lt}
-use Rattle.std.proofs.lemmas.Bool.{le-leb, or_right}
-use Rattle.sfnt_bytes.specs.Directory.{HasRecords, slot_tag, table_of}
+use Rattle.std.proofs.Common.{◌≡◌, ◌≢◌, ◌∙◌, ℕ, ◌+◌, ◌<◌, ◌≤◌, ◌⊎◌, inl, inr, Bool, true, false, cond, List, [], ◌∷◌}
+use Rattle.std.proofs.Common.{ap, refl, subst, sym, arith, find, get_or, length, nat_eq, nat_le, nat_lt, if◌then◌else◌}
+use Rattle.std.specs.Option.{option_map, option_or}
+use Rattle.std.proofs.lemmas.Bool.{agree_below_at, both_ways, le-leb, ltb-true, or_right}
+use Rattle.std.proofs.lemmas.Slice.Eq.{bytes_eq-Decides}
+use Rattle.sfnt_bytes.specs.Directory.{HasRecords, kept_tag, slot_tag, table_of}
+use Rattle.sfnt_bytes.specs.Lines.{first_of_lines, when}
+use Rattle.sfnt_bytes.specs.Refusals.{is_duplicate, is_outside}
+use Rattle.sfnt_bytes.specs.Tag.{same_tag}
+use Rattle.sfnt_bytes.specs.declared.directory.DirError.TheVariants.{DuplicateTable, TableOutOfFile}
 use Rattle.sfnt_bytes.specs.declared.tag.Tag.{Tag}
 use Rattle.sfnt_bytes.specs.declared.tag.TheConstants.{ALL_SLOTS}
+use Rattle.font_file.specs.declared.font_error.FontError.TheVariants.{BadVariations, Directory}
 use Rattle.font_map.specs.Mapping.{mapping_of}
 use Rattle.font_theory.specs.Bytes.{cut_head}
-use Rattle.font_theory.specs.Content.{Font, content, plain_font}
+use Rattle.font_theory.specs.Content.{Font, Wanted, content, is_bad_variations_in, plain_font}
 use Rattle.font_theory.specs.Kinds.Reading.{absent, as_it_is, unvarying}
-use Rattle.font_theory.specs.Kinds.{Reading}
-use Rattle.font_theory.proofs.KindLemmas.{settings-are}
-use Rattle.font_theory.specs.Kinds.{font_of, format_by, format_of}
-use Rattle.font_theory.specs.Kinds.{read_by, settings, tables_of, there_by}
+use Rattle.font_theory.specs.Kinds.{Reading, fault_by, fault_of, font_of, format_by, format_of, full_settings}
+use Rattle.font_theory.specs.Kinds.{layout_settings, lean_settings, read_by, settings, tables_of, there_by}
+use Rattle.font_theory.specs.Kinds.{variable_settings}
 use Rattle.font_theory.specs.Parting.{divided}
 use Rattle.font_theory.specs.declared.kinds.Kind.{Kind}
+use Rattle.font_theory.specs.declared.kinds.Kind.TheVariants.{Full, Layout, Lean, Variable}
+use Rattle.font_theory.proofs.KindLemmas.{settings-are}
+use Rattle.font_subset.specs.CutOfKind.{cut_of}
 use Rattle.commands.specs.Drop.{without_tables}
-use Rattle.cut_laws.specs.Dropping.{DroppingKeepsCut, KeptStay, ReadStay}
-use Rattle.cut_laws.proofs.DropFontLemmas.{cmap-without, count-without, head-without, outline-without}
-use Rattle.cut_laws.proofs.DropTableLemmas.{same_tag-blanks, table-without}
+use Rattle.cut_laws.specs.Dropping.{DroppingKeepsCut, KeptStay, ReadStay, Stays}
+use Rattle.cut_laws.proofs.DropFontLemmas.{cmap-without, count-without, fault-without, find-same, head-without}
+use Rattle.cut_laws.proofs.DropFontLemmas.{outline-without}
+use Rattle.cut_laws.proofs.DropTableLemmas.{is_duplicate-without, is_outside-without, same_tag-blanks, table-without}
 
 -- a table that is read has a slot of some cut
 module _ (kind : Kind) where
@@ -37,6 +47,41 @@ module _ (kind : Kind) where
       by_reading low absent e = inl e
       by_reading low as_it_is e = inr (low, λ other. let same : as_it_is ≡ absent = sym e ∙ other in cc)
       by_reading low unvarying e = inr (low, λ other. let same : unvarying ≡ absent = sym e ∙ other in cc)
+
+-- whether a table is read
+abbrev reads : Reading → Bool
+reads absent = false
+reads as_it_is = true
+reads unvarying = true
+
+-- the slots of the further tables of a kind, in the order in which they are looked for
+abbrev further_slot : Kind → ℕ → ℕ
+further_slot Layout k = 16 + k
+further_slot _ k = if nat_lt k 4 then 16 + k else if nat_eq k 12 then 20 else 17 + k
+
+-- such a tag is that of a slot that is read
+record IsFurther (kind : Kind) (k : ℕ) : Type 0 where
+  low : further_slot kind k < ALL_SLOTS
+  is_read : reads ((settings kind).reading (further_slot kind k)) ≡ true
+  tag : same_tag (slot_tag (further_slot kind k)) (get_or (settings kind).tags k (record { 0 = [] })) ≡ true
+
+are_further : (kind : Kind) (k : ℕ) → k < length (settings kind).tags → IsFurther kind k
+unfolding full_settings lean_settings layout_settings variable_settings kept_tag slot_tag
+are_further Full k low = absurd (omega (arith, low))
+are_further Lean k low = absurd (omega (arith, low))
+are_further Layout k low = record {
+  low = ltb-true _ _ (agree_below_at (λ n. nat_lt (further_slot Layout n) ALL_SLOTS) (λ _. true) 5 k refl low);
+  is_read = agree_below_at (λ n. reads ((settings Layout).reading (further_slot Layout n))) (λ _. true) 5 k refl low;
+  tag = agree_below_at (λ n. same_tag (slot_tag (further_slot Layout n))
+      (get_or (settings Layout).tags n (record { 0 = [] }))) (λ _. true) 5 k refl low;
+}
+are_further Variable k low = record {
+  low = ltb-true _ _ (agree_below_at (λ n. nat_lt (further_slot Variable n) ALL_SLOTS) (λ _. true) 13 k refl low);
+  is_read = agree_below_at (λ n. reads ((settings Variable).reading (further_slot Variable n))) (λ _. true) 13 k refl
+      low;
+  tag = agree_below_at (λ n. same_tag (slot_tag (further_slot Variable n))
+      (get_or (settings Variable).tags n (record { 0 = [] }))) (λ _. true) 13 k refl low;
+}
 
 module _ (kind : Kind) (tags : List Tag) (file : List ℕ) (fits : HasRecords file) (kept : KeptStay tags file)
     (stay : ReadStay kind tags file) where
@@ -67,8 +112,42 @@ module _ (kind : Kind) (tags : List Tag) (file : List ℕ) (fits : HasRecords fi
     there = there_by (settings kind) (λ slot. table-same slot i) (outlines-same i);
   }
 
+  -- a tag of the kind stays, and its records are looked through alike
+  further-same : (test : List ℕ → Tag → Bool)
+      → ((slot : ℕ) → slot < ALL_SLOTS → Stays tags file (slot_tag slot)
+      → test made (slot_tag slot) ≡ test file (slot_tag slot))
+      → find (test made) (settings kind).tags ≡ find (test file) (settings kind).tags
+  further-same test same =
+      find-same (test made) (test file) (settings kind).tags (record { 0 = [] })
+      (λ k low. at k (are_further kind k low))
+    where
+      at : (k : ℕ) → IsFurther kind k → test made (get_or (settings kind).tags k (record { 0 = [] }))
+          ≡ test file (get_or (settings kind).tags k (record { 0 = [] }))
+      at k is =
+          let slot = further_slot kind k in
+          let read : (settings kind).reading slot ≢ absent = λ none. both_ways _ (ap reads none) is.is_read in
+          let letters = (bytes_eq-Decides (slot_tag slot).0
+          (get_or (settings kind).tags k (record { 0 = [] })).0).0 is.tag in
+          subst (λ (t : List ℕ). test made (record { 0 = t }) ≡ test file (record { 0 = t })) letters
+          (same slot is.low (stay slot is.low read))
+
+  fault-same : fault_of kind made ≡ fault_of kind file
+  unfolding fault_by
+  fault-same =
+      let duplicates = further-same is_duplicate (λ slot low stays.
+      is_duplicate-without tags file fits (slot_tag slot) stays (same_tag-blanks slot low)) in
+      let outside = further-same is_outside (λ slot low stays.
+      is_outside-without tags file fits (slot_tag slot) stays (same_tag-blanks slot low)) in
+      λ i. option_or (fault-without tags file fits kept i) (first_of_lines (
+      option_map Directory (first_of_lines (option_map DuplicateTable (duplicates i)
+      ∷ option_map TableOutOfFile (outside i) ∷ []))
+      ∷ when (is_bad_variations_in (λ slot. table-same slot i)) BadVariations
+      ∷ []))
+
+  cuts-same : (W : Wanted) → cut_of kind made W ≡ cut_of kind file W
+  unfolding format_by
+  cuts-same W = ap (λ (F : Font). (format_of kind).file (content (divided (settings kind).partition F) W)) font-same
+
 pub cut-without : DroppingKeepsCut
-unfolding format_by
-cut-without kind tags file fits kept stay W =
-    ap (λ (F : Font). (format_of kind).file (content (divided (settings kind).partition F) W))
-    (font-same kind tags file fits kept stay)
+cut-without kind tags file fits kept stay =
+    (fault-same kind tags file fits kept stay, cuts-same kind tags file fits kept stay)

@@ -30,7 +30,7 @@ use Rattle.cut_laws.proofs.DropTableLemmas.{is_duplicate-without, is_outside-wit
 use Rattle.cut_laws.proofs.DropTableLemmas.{table-without, table_count-without, version-without}
 
 -- what is found in a list is the same where two tests answer alike
-find-same : (p q : Tag → Bool) (xs : List Tag) (d : Tag)
+pub find-same : (p q : Tag → Bool) (xs : List Tag) (d : Tag)
     → ((k : ℕ) → k < length xs → p (get_or xs k d) ≡ q (get_or xs k d))
     → find p xs ≡ find q xs
 find-same p q [] d same = refl

@@ -56,15 +56,16 @@ module _ (kind : Kind) (file : List ℕ) (accepted : fault_of kind file ≡ None
       ((is_there-by (settings kind) (settings-are kind) file accepted g).0 t).1 ∙ there g t))
 
 pub own_renewed : OwnCutIsRenewed
-own_renewed kind file accepted =
-    cut-listed kind file accepted (is_mapped (map_of file)) _ everything
-    (λ c some. lt-ltb 0 (map_of file c) (grind (arith, some)))
+own_renewed kind file codes accepted mapped =
+    cut-listed kind file accepted codes _ everything mapped
     (λ g t. kept-there (font_of kind file) everything
     (IsFont-by (settings kind) (settings-are kind) file accepted) g refl t)
 
 pub given_back : CutIsGivenBack
 given_back kind file current =
-    own_renewed kind file (sym ((kind_is kind).fault_is file) ∙ current.accepted) ∙ current.written
+    own_renewed kind file (is_mapped (map_of file)) (sym ((kind_is kind).fault_is file) ∙ current.accepted)
+    (λ c some. lt-ltb 0 (map_of file c) (grind (arith, some)))
+    ∙ current.written
 
 pub closed_plain : ClosedCutIsPlain
 unfolding closed

@@ -5,7 +5,7 @@ use Rattle.sfnt_bytes.specs.declared.tag.Tag.{Tag}
 use Rattle.sfnt_bytes.specs.declared.tag.TheConstants.{ALL_SLOTS, SLOTS}
 use Rattle.font_file.specs.Font.{font_fault}
 use Rattle.font_theory.specs.Content.{Wanted}
-use Rattle.font_theory.specs.Kinds.{settings}
+use Rattle.font_theory.specs.Kinds.{fault_of, settings}
 use Rattle.font_theory.specs.Kinds.Reading.{absent}
 use Rattle.font_theory.specs.declared.kinds.Kind.{Kind}
 use Rattle.font_subset.specs.CutOfKind.{cut_of}
@@ -31,8 +31,9 @@ DroppingKeepsFault =
     (tags : List Tag) (file : List ℕ) → HasRecords file → KeptStay tags file
     → font_fault (without_tables tags file) ≡ font_fault file
 
--- and what goes beside the tables of a kind does not matter to its cuts
+-- what goes beside the tables of a kind does not matter to its cuts, and to whether a font is accepted for them
 abbrev pub DroppingKeepsCut : Type 0
 DroppingKeepsCut =
     (kind : Kind) (tags : List Tag) (file : List ℕ) → HasRecords file → KeptStay tags file → ReadStay kind tags file
-    → (W : Wanted) → cut_of kind (without_tables tags file) W ≡ cut_of kind file W
+    → (fault_of kind (without_tables tags file) ≡ fault_of kind file)
+    × ((W : Wanted) → cut_of kind (without_tables tags file) W ≡ cut_of kind file W)

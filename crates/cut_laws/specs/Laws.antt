@@ -1,5 +1,5 @@
 -- Laws of cuts that documents speak of, this project's own, each of them the contract of a function.
-use Rattle.std.specs.Prelude.{◌≡◌, ℕ, Bool, true, false, List, None, Some}
+use Rattle.std.specs.Prelude.{◌≡◌, ◌≢◌, ℕ, Bool, true, false, List, None, Some}
 use Rattle.codes.specs.CharacterMap.{is_mapped}
 use Rattle.font_tables.specs.Fields.{glyph_count_of}
 use Rattle.font_file.specs.Font.{map_of}
@@ -18,21 +18,18 @@ listed codes numbers = record { codes = codes; glyphs = glyphs_wanted (Some numb
 abbrev pub kept_numbers : Kind → List ℕ → List ℕ
 kept_numbers kind file = numbers_in (is_kept (font_of kind file) everything) (glyph_count_of file)
 
--- these, and the codes that the file maps
-abbrev pub own_listed : Kind → List ℕ → Wanted
-own_listed kind file = listed (is_mapped (map_of file)) (kept_numbers kind file)
-
--- the cut of a file for them is the file written anew
+-- the cut of a file for them, and for codes among which are all that it maps, is the file written anew
 abbrev pub OwnCutIsRenewed : Type 0
 OwnCutIsRenewed =
-    (kind : Kind) (file : List ℕ) → fault_of kind file ≡ None
-    → cut_of kind file (own_listed kind file) ≡ renewed (format_of kind) file
+    (kind : Kind) (file : List ℕ) (codes : ℕ → Bool) → fault_of kind file ≡ None
+    → ((c : ℕ) → map_of file c ≢ 0 → codes c ≡ true)
+    → cut_of kind file (listed codes (kept_numbers kind file)) ≡ renewed (format_of kind) file
 
--- so they give a current cut back
+-- so they and the codes that it maps give a current cut back
 abbrev pub CutIsGivenBack : Type 0
 CutIsGivenBack =
     (kind : Kind) (file : List ℕ) → IsCurrent (format_of kind) file
-    → cut_of kind file (own_listed kind file) ≡ file
+    → cut_of kind file (listed (is_mapped (map_of file)) (kept_numbers kind file)) ≡ file
 
 -- the glyphs that links lead to from what is wanted, as `closure` of an opened font lists them
 abbrev pub closure_numbers : Kind → List ℕ → Wanted → List ℕ

@@ -3,12 +3,13 @@ ghost use Rattle.cut_laws.specs.Dropping.{DroppingKeepsCut, DroppingKeepsFault};
 ghost use Rattle.cut_laws.specs.Laws.{ClosedCutIsPlain, CutIsGivenBack, OwnCutIsRenewed};
 ghost use Rattle.cut_laws.specs.Texts.{TextsAreShort};
 
-/// The cut of a file for the codes that it maps and the glyphs that it keeps of itself is the file written anew.
+/// The cut of a file for the glyphs that it keeps of itself, and for codes among which are all that it maps, is the file
+/// written anew.
 pub fn own_cut_is_renewed()
     ensures { OwnCutIsRenewed }
 {}
 
-/// So these give a current cut back, byte for byte.
+/// So these glyphs and the codes that it maps give a current cut back, byte for byte.
 pub fn cut_is_given_back()
     ensures { CutIsGivenBack }
 {}
@@ -24,7 +25,8 @@ pub fn dropping_keeps_fault()
     ensures { DroppingKeepsFault }
 {}
 
-/// So are its cuts of a kind, byte for byte, where the kind has none of the tables that go.
+/// It is accepted, or refused, for cuts of a kind as it was, and has the same cuts of it, byte for byte, where the kind
+/// reads none of the tables that go.
 pub fn dropping_keeps_cut()
     ensures { DroppingKeepsCut }
 {}
