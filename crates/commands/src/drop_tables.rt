@@ -66,7 +66,7 @@ fn with_blanks<A: Memory>(alloc: A, file: &[u8], tags: &[Tag]) -> Result<Vec<u8,
 }
 
 /// Returns the file of a font without some tables: four blanks stand for their tags in its directory, and nothing
-/// else is changed, so that a cut of it is that of a font which has none of them.
+/// else is changed. Where no table lies over the directory, a cut of it is that of a font which has none of them.
 ///
 /// # Errors
 /// `AllocError` if out of memory.
