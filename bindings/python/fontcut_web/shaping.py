@@ -13,8 +13,8 @@ from .common import Refused
 
 PROGRAM = "hb-shape"
 INSTALL = "apt install libharfbuzz-bin"
-# Texts are not in the language of whoever runs this.
-_NO_LANGUAGE = {**os.environ, "LC_ALL": "C"}
+# Texts are not in the language of whoever runs this; paths are in UTF-8.
+_NO_LANGUAGE = {**os.environ, "LC_ALL": "C.UTF-8"}
 # A glyph as hb-shape prints it: its number, its cluster, its offsets and its advances, some of which may be left out.
 _GLYPH = re.compile(r"(\d+)=(\d+)(?:@(-?\d+),(-?\d+))?(?:\+(-?\d+)(?:,(-?\d+))?)?")
 _NUMBER = re.compile(r"\d+")
