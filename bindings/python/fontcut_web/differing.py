@@ -5,7 +5,7 @@ import base64
 import json
 import os
 import tempfile
-from typing import Any, Callable, Dict, List, NamedTuple, Sequence
+from typing import Any, Callable, Dict, List, NamedTuple, Optional, Sequence
 
 from fontcut_output import write
 
@@ -53,28 +53,36 @@ class Difference(NamedTuple):
     pictures: Sequence[str] = ()
 
 
-def _asked(ask: Ask, expression: str) -> List[Any]:
-    """The list that an expression of JavaScript stands for in a page."""
-    found: List[Any] = ask("Runtime.evaluate", expression=expression, awaitPromise=True,
-                           returnByValue=True)["result"].get("value", [])
-    return found
+def _asked(ask: Ask, expression: str) -> Optional[List[Any]]:
+    """The list that an expression of JavaScript stands for in a page, or None where that throws, or has another."""
+    answer = ask("Runtime.evaluate", expression=expression, awaitPromise=True, returnByValue=True)
+    found = answer["result"].get("value")
+    return found if isinstance(found, list) and "exceptionDetails" not in answer else None
 
 
-def place_of(ask: Ask, pictures: Sequence[str]) -> List[int]:
-    """The first pixel by which two pictures differ, and the rectangle of those that do, which an empty page finds."""
+def place_of(ask: Ask, pictures: Sequence[str]) -> Optional[List[int]]:
+    """The first pixel by which two pictures differ, and the rectangle of those that do, which an empty page finds:
+    nothing, where one is but higher than the other, and None, if the page does not tell it."""
     return _asked(ask, _COMPARE % json.dumps(pictures))
 
 
-def words_of(ask: Ask, place: Sequence[int], names: Callable[[str], str]) -> str:
+def words_of(ask: Ask, place: Optional[Sequence[int]], names: Callable[[str], str]) -> str:
     """What is said of the place where a page differs, which is open in the browser: its element, and the fonts that are
-    named for it, as they are called here."""
+    named for it, as they are called here. Nothing, if a page does not tell that: its scripts may have other functions
+    by the names that are called here."""
+    if place is None:
+        return ""
     if not place:
         return ", whose picture is higher or lower"
     x, y, left, top, right, bottom = place
-    name, text, families = _asked(ask, _ELEMENT % (x, y))
+    element = _asked(ask, _ELEMENT % (x, y)) or []
+    if len(element) != 3 or not all(isinstance(one, str) for one in element):
+        return ""
+    name, text, families = element
     fonts = names(families)
-    return (f", first at {x}, {y} in {name or 'the page'} {text!r}{f', drawn in {fonts}' if fonts else ''}; what differs "
-            f"is from {left}, {top} to {right}, {bottom}")
+    drawn_in = f", drawn in {fonts}" if fonts else ""
+    return (f", first at {x}, {y} in {name or 'the page'} {text!r}{drawn_in}; what differs is from {left}, {top} to "
+            f"{right}, {bottom}")
 
 
 def kept(difference: Difference) -> str:
