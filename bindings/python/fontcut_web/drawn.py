@@ -52,6 +52,7 @@ _FONTS = """(async () => {
 })()"""
 # Elements with pages of their own.
 _OTHERS = "iframe", "frame", "object", "embed"
+_BOXES = "boxes"
 _DIFFERS = "it is drawn otherwise by the cut than by the whole font"
 _EXPIRED = "Emulation.virtualTimeBudgetExpired"
 # All text is drawn in the font, whatever the style sheets say, and what it lacks as boxes: the browser would take it of
@@ -192,8 +193,9 @@ def _put(folder: str, font: bytes) -> str:
 
 @contextlib.contextmanager
 def _browsing(program: str) -> Iterator[Tuple[Browser, str]]:
-    """A browser, with a folder for the files that it shows."""
+    """A browser, with a folder for the files that it shows, which has boxes."""
     folder = tempfile.mkdtemp()
+    file_in(folder, _BOXES, boxes())
     known = {**os.environ, "FONTCONFIG_FILE": file_in(folder, "fonts.conf", _UNHINTED.encode())}
     words = [program, *_WORDS, f"--window-size={_WIDTH},{_HEIGHT}", f"--user-data-dir={folder}/profile"]
     try:
@@ -266,35 +268,47 @@ class _Tabs:
         return picture
 
 
-def _difference(one: Compared, tabs: _Tabs, folder: str, name: str, boxed: str) -> Optional[Difference]:
-    """How a page is drawn otherwise by a cut than by the whole font, if it is; the files for that have this name in a
-    folder."""
-    pictures: List[str] = []
-    addresses: List[str] = []
-    for is_cut in False, True:
-        shown = one.shown(folder, is_cut, boxed)
-        addresses.append(_address(file_in(folder, f"{name}-{is_cut}.html", shown.encode("utf-8", "replace"))))
-        pictures.append(tabs.picture(addresses[-1], one.is_still))
-    if pictures[0] == pictures[1]:
-        return None
-    empty, page = _Tab(tabs.browser), _Tab(tabs.browser)
-    place = place_of(empty.ask, pictures)
-    page.picture(addresses[0], one.is_still)
-    page.ask("Emulation.setVirtualTimePolicy", policy="advance")
-    return Difference(f"{_DIFFERS}{words_of(page.ask, place, one.names)}", pictures)
+def _shown_at(one: Compared, is_cut: bool, folder: str, name: str) -> str:
+    """The address of a page with whole fonts or their cuts; the files for that begin with this name in a folder."""
+    shown = one.shown(folder, is_cut, os.path.join(folder, _BOXES))
+    return _address(file_in(folder, f"{name}-{is_cut}.html", shown.encode("utf-8", "replace")))
+
+
+def _difference(one: Compared, tabs: _Tabs, folder: str, name: str) -> Optional[Difference]:
+    """How a page is drawn otherwise by a cut than by the whole font, if it is."""
+    whole, cut = (tabs.picture(_shown_at(one, is_cut, folder, name), one.is_still) for is_cut in (False, True))
+    return None if whole == cut else Difference(_DIFFERS, [whole, cut])
 
 
 def _differences(program: str, every: Sequence[Compared]) -> List[Optional[Difference]]:
-    """How each page is drawn otherwise by a cut than by the whole font, if it is."""
+    """How each page is drawn otherwise by a cut than by the whole font, if it is, up to the first of these: no other is
+    told."""
     found: List[Optional[Difference]] = []
     with _browsing(program) as (browser, folder):
-        boxed, tabs = file_in(folder, "boxes", boxes()), _Tabs(browser)
+        tabs = _Tabs(browser)
         for one in every:
             try:
-                found.append(_difference(one, tabs, folder, str(len(found)), boxed))
+                found.append(_difference(one, tabs, folder, str(len(found))))
             except Failed as failed:
-                return [*found, Difference(f"{os.path.basename(program)} draws no picture of it: {failed}")]
+                found.append(Difference(f"{os.path.basename(program)} draws no picture of it: {failed}"))
+            if found[-1]:
+                break
     return found
+
+
+def _placed(program: str, one: Compared, difference: Difference) -> Difference:
+    """How a page differs, with the place where it does, which a browser of its own finds by the pictures: the one in
+    which they were drawn has ended. Without it, if that fails."""
+    if not difference.pictures:
+        return difference
+    try:
+        with _browsing(program) as (browser, folder):
+            place, tab = place_of(_Tab(browser).ask, difference.pictures), _Tab(browser)
+            tab.picture(_shown_at(one, False, folder, "place"), one.is_still)
+            tab.ask("Emulation.setVirtualTimePolicy", policy="advance")
+            return difference._replace(said=f"{difference.said}{words_of(tab.ask, place, one.names)}")
+    except Failed:
+        return difference
 
 
 def check(every: Sequence[Compared]) -> None:
@@ -306,4 +320,4 @@ def check(every: Sequence[Compared]) -> None:
         part = said[number % count]
         difference = part[number // count] if number // count < len(part) else None
         if difference:
-            raise Refused(f"{one.page}: {kept(difference)}")
+            raise Refused(f"{one.page}: {kept(_placed(program, one, difference))}")
