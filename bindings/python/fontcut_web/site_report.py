@@ -83,18 +83,21 @@ def _first(page: SitePage, made: Sequence[Made]) -> Sequence[Made]:
 
 
 def _row(settings: Settings, page: SitePage, made: Sequence[Made]) -> Dict[str, object]:
-    """What is told of a page: lines for its head, and the bytes that it takes."""
+    """What is told of a page: lines for its head, and the bytes that it takes, where two fonts may be one file."""
     rows = [{"font": one.font, "file": one.state.woff2.name, "bytes": one.state.woff2.size, **_whole([one]),
              "cut": one.state.pages[page.name].partition(":")[0]} for one in made]
-    head = [preload(_placed(one), _address(settings, page, one.state.woff2.name)) for one in _first(page, made)]
+    files = {one.state.woff2.name: one.state.woff2.size for one in made}
+    head = dict.fromkeys(preload(_placed(one), _address(settings, page, one.state.woff2.name))
+                         for one in _first(page, made))
     sheet = f'<link rel="stylesheet" href="{_address(settings, page, page.section + ".css")}">'
     return {"section": page.section, "head": [*head, sheet] if made else [], "fonts": rows,
-            "bytes": sum(one.state.woff2.size for one in made), **_whole(made)}
+            "bytes": sum(files.values()), **_whole(made)}
 
 
 def _whole(made: Sequence[Made]) -> Dict[str, int]:
-    """The bytes of whole fonts as WOFF2, if all are known."""
-    return {"whole": sum(one.whole for one in made)} if all(one.whole for one in made) else {}
+    """The bytes of whole fonts as WOFF2, each file once, if all are known."""
+    wholes = {one.font: one.whole for one in made}
+    return {"whole": sum(wholes.values())} if all(wholes.values()) else {}
 
 
 def report(settings: Settings, pages: Sequence[SitePage], made: Sequence[Made]) -> str:
