@@ -79,7 +79,8 @@ def _bases(run: Run, settings: Settings, pages: Sequence[SitePage], before: Stat
             run.said.append(f"font {number}, {font.settings.file}: no page draws text in it: nothing is made of it")
         run.said.extend(f"font {number}, {font.settings.file}: {line}" for line in own_faces.told(
             font.settings.file, font.settings.family or face_of(font.whole.data, font.name).family,
-            {face for page in pages if page.name in font.pages for face in page.read.faces}, settings.folder))
+            {face for page in pages if page.name in font.pages for face in page.read.faces}, settings.folder,
+            [one.file for one in settings.fonts]))
         every += wishes
     return [(base, [page for page in one.pages if mapped(base.font, page.letters)])
             for one, base in zip(every, bases(run, every))]
