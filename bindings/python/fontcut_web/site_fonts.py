@@ -147,13 +147,21 @@ def _prepared(one: Wished) -> Ready:
 
 
 def _put(run: Run, one: Wished, ready: Ready) -> FontState:
-    """Writes a font that is ready to be cut."""
-    if ready.why:
-        run.said.append(ready.why)
+    """Writes a font that is ready to be cut. One that is still not prepared keeps its cuts."""
+    prepared, old = run.place.put(run.place.work, one.name, ".ttf", ready.data), one.old
+    is_as_before = bool(ready.why and old and old.why and old.prepared.digest == prepared.digest)
+    run.said.extend([ready.why] if ready.why else [f"{os.path.basename(one.settings.file)} is prepared now, and its "
+                                                   "files get new names"] if old and old.why else [])
     codes = mapped(one.whole, _letters(one.settings, one.pages))
-    return FontState(digest(one.whole.data), _key(one.settings, one.whole),
-                     run.place.put(run.place.work, one.name, ".ttf", ready.data), range_words(codes),
-                     None if ready.why else _features(one.settings, one.pages), _known_whole(one), {}, {})
+    return FontState(digest(one.whole.data), _key(one.settings, one.whole), prepared, range_words(codes),
+                     None if ready.why else _features(one.settings, one.pages), _known_whole(one),
+                     old.sections if old and is_as_before else {}, old.shaped if old and is_as_before else {},
+                     ready.why, _tried(one.pages) if ready.why else "")
+
+
+def _tried(pages: Sequence[SitePage]) -> str:
+    """A digest of pages that a font could not be prepared for: it is tried again when one of them has changed."""
+    return digest_of(sorted([page.name, page.digest] for page in pages))
 
 
 def _known_whole(one: Wished) -> int:
@@ -180,9 +188,14 @@ def _key(one: FontSettings, whole: fontcut.Font) -> str:
 
 
 def _kept(run: Run, one: Wished) -> Optional[FontState]:
-    """The state of the last run, if the font that was prepared is there, and has all that is wanted."""
+    """The state of the last run, if the font that was prepared is there, and has all that is wanted. Of one that was
+    not prepared that is said again, unless its pages have changed."""
     if one.old is None or run.place.kept(run.place.work, one.old.prepared) is None:
         return None
+    if one.old.why and one.old.key == _key(one.settings, one.whole):
+        is_same = one.old.tried == _tried(one.pages)
+        run.said.extend([one.old.why] if is_same else [])
+        return one.old if is_same else None
     codes = mapped(one.whole, _letters(one.settings, one.pages))
     why = _why(one.settings, one.old, _key(one.settings, one.whole), one.pages, codes,
                _features(one.settings, one.pages))

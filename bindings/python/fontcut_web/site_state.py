@@ -60,8 +60,9 @@ class SectionState(NamedTuple):
 
 class FontState(NamedTuple):
     """A font: a digest of it, one of it with its settings, the prepared font, the characters and features that this
-    has, the bytes of the whole font as WOFF2 (0 where they are not known), its cuts, and the glyphs that it takes for
-    parts of texts, by digests of how they are shaped and of these parts."""
+    has, the bytes of the whole font as WOFF2 (0 where they are not known), its cuts, the glyphs that it takes for parts
+    of texts, by digests of how they are shaped and of these parts, and if it is not prepared, why, and a digest of the
+    pages that it was not prepared for."""
 
     source: str
     key: str
@@ -71,6 +72,8 @@ class FontState(NamedTuple):
     whole: int
     sections: Dict[str, SectionState]
     shaped: Dict[str, Dict[str, List[int]]]
+    why: str = ""
+    tried: str = ""
 
 
 class State(NamedTuple):
@@ -104,7 +107,7 @@ def _font(told: Mapping[str, Any]) -> FontState:
     shaped = {manner: {part: list(map(int, glyphs.split())) for part, glyphs in parts.items()}
               for manner, parts in told["shaped"].items()}
     return FontState(told["source"], told["key"], File(*told["prepared"]), told["codes"], told["features"],
-                     told["whole"], sections, shaped)
+                     told["whole"], sections, shaped, told.get("why", ""), told.get("tried", ""))
 
 
 def _told(font: FontState) -> Dict[str, Any]:
