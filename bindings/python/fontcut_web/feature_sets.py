@@ -23,10 +23,10 @@ def _own(element: Element, rules: Sequence[FeatureRule]) -> Iterator[Dict[str, F
 
 def _with(inherited: Choices, own: Iterable[Mapping[str, Features]]) -> Choices:
     """What the properties of an element may set: what the one around it has, or what one of its own rules sets. Which
-    rule applies only a browser knows."""
+    rule applies only a browser knows, and which value of a property that has several, named after a blank."""
     found = dict(inherited)
     for features in own:
-        for name, value in features.items():
+        for name, value in ((name.partition(" ")[0], value) for name, value in features.items()):
             found[name] = found.get(name, _NOTHING) | {value}
     return found
 

@@ -20,8 +20,8 @@ Features = Tuple[Tuple[str, int], ...]
 # The descriptors of counter styles, which add text, and other properties.
 _COUNTERS = "symbols", "additive-symbols", "prefix", "suffix", "negative", "pad", "system"
 _PROPERTIES = ("font-feature-settings|font-language-override|font-variant(?:-[a-z-]+)?|font|text-transform|content|"
-               "quotes|text-combine(?:-upright)?|text-overflow|hyphens|hyphenate-character|line-clamp|list-style(?:-type)?|"
-               f"text-emphasis(?:-style)?|direction|unicode-bidi|writing-mode|{'|'.join(_COUNTERS)}")
+               "quotes|text-combine(?:-upright)?|text-overflow|hyphens|hyphenate-character|line-clamp|"
+               f"list-style(?:-type)?|text-emphasis(?:-style)?|direction|unicode-bidi|writing-mode|{'|'.join(_COUNTERS)}")
 _VALUE = rf"(?:{STRING}|[^;{{}}\"'])*"
 _DECLARATION = re.compile(rf"(?<![\w-])(?:-(?:webkit|moz|ms)-)?({_PROPERTIES})\s*:\s*({_VALUE})", re.I)
 _IMPORTANT = re.compile(r"!\s*important\s*$", re.I)
@@ -59,7 +59,7 @@ _VARIANTS: Dict[str, Dict[str, str]] = {
 _OFF: Dict[str, str] = {"no-common-ligatures": "liga clig", "no-discretionary-ligatures": "dlig",
                         "no-historical-ligatures": "hlig", "no-contextual": "calt", "none": "liga clig dlig hlig calt"}
 # The features for letters that stand side by side in a vertical line (CSS Writing Modes 4, text-combine-upright): a
-# browser takes one of them, by how many letters these are.
+# browser takes one of them, by how many letters these are. Each is a value of one property, named behind it.
 _COMBINED = "hwid", "twid", "qwid"
 SETTINGS, _LIGATURES = "font-feature-settings", "font-variant-ligatures"
 _CAPITALS = frozenset("small-caps all-small-caps petite-caps all-petite-caps unicase".split())
@@ -146,7 +146,7 @@ def _features(name: str, value: str) -> Iterator[Tuple[str, Features]]:
         yield SETTINGS, ()
         yield from _variant("font-variant", [word for word in value.lower().split() if word == "small-caps"])
     elif name.startswith("text-combine") and value.strip().lower() != "none":
-        yield from ((f"{name} {tag}", ((tag, 1),)) for tag in _COMBINED)
+        yield from ((f"text-combine {tag}", ((tag, 1),)) for tag in _COMBINED)
 
 
 def features_in(declarations: str) -> Dict[str, Features]:
