@@ -131,7 +131,8 @@ def _opened(path: str, asked: Sequence[Asked], how: SliceOptions) -> Font:
     if how.rest and rest:
         slices, rest = [*slices, Slice(REST, rest)], []
     empty = empty_names(asked, slices)
-    notices = [f"{path}: slices without a character of it are not written: {', '.join(empty)}"] if empty else []
+    notices = [f"{path}: slices that are left without a character are not written: {', '.join(empty)}"
+               ] if empty else []
     notices += [*([lost_words(path, lost)] if lost else []), *([left_words(path, rest)] if rest else [])]
     notices += _divided_words(path, scripts, divided(codes, asked), slices)
     notices += dropped(path, font.data, (code for one in slices for code in one.codes), kind)
