@@ -31,8 +31,11 @@ class Otherwise(Refused):
     """A prepared font would shape a text otherwise than the font in a file."""
 
     def __init__(self, path: str, text: str):
-        super().__init__(f"{path}: prepared, it would shape {text!r} otherwise")
+        super().__init__(path, text)
         self.text = text
+
+    def __str__(self) -> str:
+        return f"{self.args[0]}: prepared, it would shape {self.text!r} otherwise"
 
 
 class Wanted(NamedTuple):
