@@ -40,7 +40,7 @@ class CommandParser(argparse.ArgumentParser):
     def _check_options(self, words: Sequence[str]) -> None:
         """Ends with an error for a word that is near to an option, and names that."""
         for word in (word.partition("=")[0] for word in words if word.startswith("--")):
-            for near in difflib.get_close_matches(word, self._option_string_actions, 1):
+            for near in difflib.get_close_matches(word, self._option_string_actions, 1, 0.75):
                 self.error(f"there is no option {word}: did you mean {near}?")
 
 
