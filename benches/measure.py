@@ -152,7 +152,7 @@ class Bench:
 
     def cut_size(self, font: Font, wanted: Wanted) -> int:
         """Makes a cut once, and returns its bytes."""
-        ran = run(PROGRAM, "subset", font.path, self.out, *wanted.fontcut)
+        ran = run(PROGRAM, "subset", "--quiet", font.path, self.out, *wanted.fontcut)
         need(f"{font.name}, {wanted.name}: the cut is made", ran == (0, b"", b""), ran)
         return os.path.getsize(self.out)
 
