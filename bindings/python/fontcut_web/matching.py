@@ -1,16 +1,18 @@
 """Which rules of style sheets may be about an element of a page, as far as no script changes it."""
 from __future__ import annotations
 
+import contextlib
 import functools
 import importlib
+import os
 import re
 from importlib.util import find_spec
-from typing import Optional, Sequence, Set
+from typing import List, Optional, Sequence, Set, Tuple
 
 from fontcut_output import read
 
 from .elements import Element
-from .pages import Page
+from .pages import Page, lines_of
 from .rules import Selectors
 from .styles import Matching
 
@@ -46,6 +48,17 @@ def _matching(page: Page, path: str, every: Sequence[Selectors]) -> Set[Selector
     except MALFORMED:
         return near
     return near - {one for one in asked if not found[one]}
+
+
+def lines_added(page: Page, path: str, numbers: str) -> Tuple[List[str], List[str]]:
+    """The blocks of a page in a file with what style sheets add to them; and the characters of those of which not all
+    is known, which are all where it cannot be read as browsers read it."""
+    if not lacking():
+        with contextlib.suppress(*MALFORMED):
+            generated = importlib.import_module(".generated", __package__)
+            blocks, unknown = generated.texts_with(read(path), os.path.dirname(path), page.languages, numbers)
+            return lines_of("\n".join(blocks)), lines_of("\n".join(unknown))
+    return [], [" ".join([*page.blocks, numbers])]
 
 
 def matching_of(page: Page, path: str) -> Optional[Matching]:

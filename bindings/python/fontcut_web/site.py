@@ -4,7 +4,7 @@ from __future__ import annotations
 import argparse
 import os
 import sys
-from typing import List, Mapping, Sequence, Set, Tuple
+from typing import List, Mapping, NamedTuple, Sequence, Set, Tuple
 
 import fontcut
 from fontcut_output import Progress, print_line
@@ -22,6 +22,7 @@ from .site_report import REPORT, Made, check_faces, is_ours, lines, report, shee
 from .site_settings import FILE, Settings, named, settings_of
 from .site_state import NOTHING, FontState, Place, State, bytes_at, put_text
 from .site_text import SiteFont, views
+from .site_told import Lacked
 from .site_told import told as told_of
 from .site_written import written_by
 
@@ -60,8 +61,16 @@ def _shown_in(run: Run, font: SiteFont, pages: Sequence[SitePage], empty: Set[st
     return its
 
 
-def _bases(run: Run, settings: Settings, pages: Sequence[SitePage], before: State) -> List[Tuple[Base, List[SitePage]]]:
-    """The fonts that are prepared, each with its pages, which have characters of it."""
+class Found(NamedTuple):
+    """The fonts that are prepared, each with its pages, which have characters of it; and by the names of pages, letters
+    that no font of their element has."""
+
+    bases: List[Tuple[Base, List[SitePage]]]
+    lacked: Lacked
+
+
+def _bases(run: Run, settings: Settings, pages: Sequence[SitePage], before: State) -> Found:
+    """The fonts that are prepared."""
     names, languages = [page.name for page in pages], languages_of(settings, pages)
     fonts = [SiteFont(font, name, accepted(font.file), named(settings, os.path.basename(font.file), font.pages, names))
              for font, name in zip(settings.fonts, _names(settings))]
@@ -82,8 +91,8 @@ def _bases(run: Run, settings: Settings, pages: Sequence[SitePage], before: Stat
             {face for page in pages if page.name in font.pages for face in page.read.faces}, settings.folder,
             [one.file for one in settings.fonts]))
         every += wishes
-    return [(base, [page for page in one.pages if mapped(base.font, page.letters)])
-            for one, base in zip(every, bases(run, every))]
+    return Found([(base, [page for page in one.pages if mapped(base.font, page.letters)])
+                  for one, base in zip(every, bases(run, every))], seen.lacked)
 
 
 def _made(run: Run, base: Base, state: FontState) -> List[Made]:
@@ -118,7 +127,7 @@ def _run(run: Run, settings: Settings, before: State) -> Tuple[str, List[str]]:
     """Makes what has changed. The report, and what is said at the end."""
     pages = pages_of(settings)
     modes = modes_of(settings, pages)
-    found = _bases(run, settings, pages, before)
+    found, lacked = _bases(run, settings, pages, before)
     check_faces((page.section, base.face, base.settings.file) for base, its in found for page in its)
     states, checked = sections(run, found, modes)
     every = [one for (base, _), state in zip(found, states) for one in _made(run, base, state)]
@@ -127,7 +136,7 @@ def _run(run: Run, settings: Settings, before: State) -> Tuple[str, List[str]]:
     fonts = {base.key: state for (base, _), state in zip(found, states)}
     told = report(settings, pages, every)
     changed = _write(run.place, texts, told, State(programs(), fonts, [*texts, REPORT]))
-    run.said.extend(told_of(settings, modes, found, pages))
+    run.said.extend(told_of(settings, modes, found, pages, lacked))
     count = sum(one.is_new for one in every)
     return told, [*checked, f"made anew: {count} of {len(every)} fonts, {changed} of {len(texts)} style sheets"]
 

@@ -74,7 +74,7 @@ class Modes(NamedTuple):
 
 def _digest(shown: Shown, written: Written) -> str:
     """A digest of what the cuts of a page depend on."""
-    return digest_of([shown.text, shown.blocks, shown.languages, sorted(shown.directions), shown.features,
+    return digest_of([shown.text, shown.blocks, shown.languages, sorted(shown.directions), shown.features, shown.open,
                       written.digest])
 
 

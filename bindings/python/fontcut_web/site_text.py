@@ -9,7 +9,7 @@ from typing import Any, Collection, Dict, Iterator, List, Mapping, NamedTuple, O
 import fontcut
 from fontcut_output import read
 
-from . import preparing
+from . import preparing, sequences
 from .common import part
 from .faces import face_of, limits_in, varying
 from .malformed import MALFORMED
@@ -17,7 +17,7 @@ from .matching import lacking
 from .pages import decoded, lines_of
 from .processes import in_groups
 from .sets import codes_of, some_of
-from .shown import added_to, shown_by
+from .shown import added_to, numbers_of, shown_by
 from .site_pages import SitePage, is_own
 from .site_settings import FontSettings, Settings
 from .site_written import written_by
@@ -41,10 +41,13 @@ class SiteFont(NamedTuple):
 
 class Part(NamedTuple):
     """What fonts may draw of a page: the numbers of those that are named for it, and lines of each that some element
-    may have; or why these are not known."""
+    may have, with the characters of those of which not all is known, and letters that no font of their element has; or
+    why these are not known."""
 
     named: Collection[int]
     lines: Dict[int, List[str]]
+    open: Dict[int, List[str]]
+    lacked: Sequence[Any] = ()
     unknown: str = ""
 
 
@@ -110,32 +113,47 @@ def _drawn(settings: Settings, page: SitePage, choices: Sequence[Any], is_writte
     """What fonts may draw of a page, to which readers may write other text in some of them."""
     why, every = _unknown(page), range(len(choices))
     if why:
-        return Part(_named(page, choices), {}, why)
+        return Part(_named(page, choices), {}, {}, (), why)
     drawn_text = part("drawn_text")
-    asked = drawn_text.Asked(page.path, added_to(page.page, page.read), functools.partial(is_own, settings, page.name),
-                             page.page.languages, is_written or bool(page.written.every))
+    asked = drawn_text.Asked(page.path, added_to(page.page, page.read), numbers_of(page.page, page.read.styles),
+                             functools.partial(is_own, settings, page.name), page.page.languages,
+                             is_written or bool(page.written.every))
     try:
-        lines, letters = drawn_text.drawn_texts(read(page.path), asked, choices)
+        found = drawn_text.drawn_texts(read(page.path), asked, choices)
     except (*MALFORMED, RecursionError) as error:
-        return Part(every, {}, f"it or a style sheet is not understood: {error or type(error).__name__}")
-    if not {letter for letter in page.page.text if not letter.isspace() and letter.isprintable()} <= letters:
-        return Part(every, {}, "its text is not read as browsers read it")
-    return Part(list(lines), lines)
+        return Part(every, {}, {}, (), f"it or a style sheet is not understood: {error or type(error).__name__}")
+    if not {letter for letter in page.page.text if not letter.isspace() and letter.isprintable()} <= found.letters:
+        return Part(every, {}, {}, (), "its text is not read as browsers read it")
+    return Part(list(found.lines), found.lines, found.open, found.lacked)
 
 
-def _view(page: SitePage, lines: Sequence[str]) -> SitePage:
-    """A page as a font shows it that may draw these lines. It has the blank too, for the height of lines."""
+def _view(page: SitePage, lines: Sequence[str], unknown: Sequence[str]) -> SitePage:
+    """A page as a font shows it that may draw these lines, and others of which not all is known. It has the blank too,
+    for the height of lines."""
     text = "\n".join([*lines, " "])
     shown = shown_by(page.page._replace(text=text, blocks=lines_of(text)), page.path, page.read,
-                     text=page.written.text, is_all=True)
+                     text=page.written.text, drawn=unknown)
     return page.seen(shown)
 
 
 class Views(NamedTuple):
-    """The pages of each font as it shows them, and lines that say of which pages it is not known what fonts show."""
+    """The pages of each font as it shows them; lines that say of which pages it is not known what fonts show; and by
+    the names of pages, letters that no font of their element has: its name, the files of these fonts, and the letters.
+    """
 
     pages: List[List[SitePage]]
     said: List[str]
+    lacked: Dict[str, List[Tuple[str, List[str], List[int]]]] = {}
+
+
+def _lacked(one: Part, fonts: Sequence[SiteFont]) -> Iterator[Tuple[str, List[str], List[int]]]:
+    """The letters of elements that none of their fonts has, nor composes of others."""
+    for tag, faces, codes in one.lacked:
+        left = sorted(sequences.without_selectors(codes))
+        for face in faces:
+            left = fontcut.missing(fonts[face].whole, left)
+        if left:
+            yield tag, [os.path.basename(fonts[face].settings.file) for face in sorted(faces)], left
 
 
 def _parts(settings: Settings, fonts: Sequence[SiteFont], pages: Sequence[SitePage]) -> List[Part]:
@@ -145,8 +163,10 @@ def _parts(settings: Settings, fonts: Sequence[SiteFont], pages: Sequence[SitePa
     numbers = [[at for at, font in enumerate(fonts) if page.name in font.pages] for page in pages]
     found = in_groups([functools.partial(_drawn, settings, page, [choices[at] for at in its],
                                          any(written[at] for at in its)) for page, its in zip(pages, numbers)])
-    return [Part([its[at] for at in one.named], {its[at]: lines for at, lines in one.lines.items()}, one.unknown)
-            for one, its in zip(found, numbers)]
+    return [Part([its[at] for at in one.named], {its[at]: lines for at, lines in one.lines.items()},
+                 {its[at]: lines for at, lines in one.open.items()},
+                 [lacked._replace(faces=frozenset(its[at] for at in lacked.faces)) for lacked in one.lacked],
+                 one.unknown) for one, its in zip(found, numbers)]
 
 
 def views(settings: Settings, fonts: Sequence[SiteFont], pages: Sequence[SitePage]) -> Views:
@@ -166,7 +186,7 @@ def views(settings: Settings, fonts: Sequence[SiteFont], pages: Sequence[SitePag
                              "pages"])
     for at, its in enumerate(found):
         found[at] = [_seen(page, parts[page.name], at) for page in its if at in parts[page.name].named]
-    return Views(found, list(_said(parts)))
+    return Views(found, list(_said(parts)), {name: list(_lacked(one, fonts)) for name, one in parts.items()})
 
 
 def _said(parts: Mapping[str, Part]) -> Iterator[str]:
@@ -180,4 +200,4 @@ def _said(parts: Mapping[str, Part]) -> Iterator[str]:
 
 def _seen(page: SitePage, drawn: Part, font: int) -> SitePage:
     """A page as a font of this number shows it."""
-    return page if drawn.unknown else _view(page, drawn.lines[font])
+    return page if drawn.unknown else _view(page, drawn.lines[font], drawn.open.get(font, ()))

@@ -16,7 +16,7 @@ from .common import SHAPED, Missing, Refused, UsageError, need, part
 from .inputs import accepted, as_file, mapped, read_pages, refusing
 from .replaced import check_font, check_name, check_written, is_same
 from .sets import Slice, page_range, range_words, some_words
-from .shown import Shown, letters_of, read_styles, shown_by
+from .shown import OPEN, Shown, letters_of, read_styles, shown_by
 
 # What is said of an option without a character, as where a variable of a shell is empty.
 NO_TEXT = "--text is empty: it names no character"
@@ -75,6 +75,7 @@ def _exact(given: argparse.Namespace, font: fontcut.Font, source: str, shown: Se
     with as_file(source, font) as path, Progress("fontcut-web", given.quiet) as progress:
         exact = shaped.exact_cut(path, font, shown, given.kind, shaped.Said(progress, os.path.basename(source)))
     unknown = [line for page in shown for line in page.unknown]
+    unknown += [f"{page.path}: {OPEN}" for page in shown if page.open]
     return Cut(exact.data, exact.codes, {"glyphs": exact.glyphs, "unknown": unknown}, unknown)
 
 
