@@ -476,8 +476,10 @@ def _status(error: BaseException, install: str) -> int:
     said = {Missing: f"{error}: {ways}", MemoryError: "no memory"}.get(type(error), str(error))
     if isinstance(error, OSError):
         said = reason(error)
-    print(f"fontcut-web: {said}", file=sys.stderr)
-    return {UsageError: 2, Refused: 1, fontcut.Refused: 1, MemoryError: 1}.get(type(error), 3)
+    for line in said.split("\n"):
+        print(f"fontcut-web: {line}", file=sys.stderr)
+    return {UsageError: 2, Refused: 1, fontcut.Refused: 1, MemoryError: 1}.get(
+        Refused if isinstance(error, Refused) else type(error), 3)
 
 
 def main(words: Optional[Sequence[str]] = None, install: str = INSTALL) -> int:

@@ -281,8 +281,7 @@ def _difference(one: Compared, tabs: _Tabs, folder: str, name: str) -> Optional[
 
 
 def _differences(program: str, every: Sequence[Compared]) -> List[Optional[Difference]]:
-    """How each page is drawn otherwise by a cut than by the whole font, if it is, up to the first of these: no other is
-    told."""
+    """How each page is drawn otherwise by a cut than by the whole font, if it is."""
     found: List[Optional[Difference]] = []
     with _browsing(program) as (browser, folder):
         tabs = _Tabs(browser)
@@ -291,8 +290,7 @@ def _differences(program: str, every: Sequence[Compared]) -> List[Optional[Diffe
                 found.append(_difference(one, tabs, folder, str(len(found))))
             except Failed as failed:
                 found.append(Difference(f"{os.path.basename(program)} draws no picture of it: {failed}"))
-            if found[-1]:
-                break
+                tabs = _Tabs(browser)
     return found
 
 
@@ -311,13 +309,35 @@ def _placed(program: str, one: Compared, difference: Difference) -> Difference:
         return difference
 
 
+class Differs(Refused):
+    """Pages are drawn otherwise by cuts than by whole fonts: a line for each."""
+
+    def __init__(self, lines: Sequence[str]):
+        super().__init__(lines)
+
+    def __str__(self) -> str:
+        return "\n".join(self.args[0])
+
+
 def check(every: Sequence[Compared]) -> None:
-    """Raises `Refused` for the first page that is not drawn by a cut as by the whole font."""
+    """Raises `Differs` for the pages that are not drawn by a cut as by the whole font."""
+    lines = list(filter(None, differences(every)))
+    if lines:
+        raise Differs(lines)
+
+
+def differences(every: Sequence[Compared]) -> List[str]:
+    """What is said of each page that is not drawn by a cut as by the whole font; nothing of others."""
+    if not every:
+        return []
     program, count = _program(), min(processors(), -(-len(every) // _LEAST))
     parts = [every[first::count] for first in range(count)]
     said = side_by_side([functools.partial(_differences, program, part) for part in parts])
-    for number, one in enumerate(every):
-        part = said[number % count]
-        difference = part[number // count] if number // count < len(part) else None
-        if difference:
-            raise Refused(f"{one.page}: {kept(_placed(program, one, difference))}")
+    found = [(one, said[number % count][number // count]) for number, one in enumerate(every)]
+    told = iter(side_by_side([functools.partial(_told, program, one, how) for one, how in found if how]))
+    return [next(told) if how else "" for _, how in found]
+
+
+def _told(program: str, one: Compared, difference: Difference) -> str:
+    """What is said of a page that differs."""
+    return f"{one.page}: {kept(_placed(program, one, difference))}"

@@ -11,6 +11,7 @@ from fontcut_output import Progress, print_line
 
 from . import own_faces, preparing, site_example
 from .common import Refused, UsageError, need
+from .drawn import Differs
 from .faces import face_of
 from .icons import is_of_icons
 from .inputs import accepted, mapped
@@ -129,6 +130,7 @@ def _run(run: Run, settings: Settings, before: State) -> Tuple[str, List[str]]:
     modes = modes_of(settings, pages)
     found, lacked = _bases(run, settings, pages, before)
     check_faces((page.section, base.face, base.settings.file) for base, its in found for page in its)
+    run.said.extend(told_of(settings, modes, found, pages, lacked))
     states, checked = sections(run, found, modes)
     every = [one for (base, _), state in zip(found, states) for one in _made(run, base, state)]
     texts = sheets(every, settings.display)
@@ -136,7 +138,6 @@ def _run(run: Run, settings: Settings, before: State) -> Tuple[str, List[str]]:
     fonts = {base.key: state for (base, _), state in zip(found, states)}
     told = report(settings, pages, every)
     changed = _write(run.place, texts, told, State(programs(), fonts, [*texts, REPORT]))
-    run.said.extend(told_of(settings, modes, found, pages, lacked))
     count = sum(one.is_new for one in every)
     return told, [*checked, f"made anew: {count} of {len(every)} fonts, {changed} of {len(texts)} style sheets"]
 
@@ -154,6 +155,11 @@ def _settings(folder: str) -> Settings:
     return settings_of(folder)
 
 
+def _say(lines: Sequence[str]) -> None:
+    for line in lines:
+        print(f"fontcut-web: {line}", file=sys.stderr)
+
+
 def run(given: argparse.Namespace) -> None:
     """Makes the fonts of a site."""
     need("fontTools", "brotli", "tomli")
@@ -164,8 +170,11 @@ def run(given: argparse.Namespace) -> None:
         if before.programs and before.programs != programs():
             said.append("all fonts are made anew: a program has another version")
             before = NOTHING
-        told, last = _run(Run(place, said, given.check, given.whole, progress), settings, before)
-    for line in [*said, *(last[:-1] if given.json else [])]:
-        print(f"fontcut-web: {line}", file=sys.stderr)
+        try:
+            told, last = _run(Run(place, said, given.check, given.whole, progress), settings, before)
+        except Differs:
+            _say(said)
+            raise
+    _say([*said, *(last[:-1] if given.json else [])])
     for line in [told.rstrip()] if given.json else [*lines(told), *last]:
         print_line(line)

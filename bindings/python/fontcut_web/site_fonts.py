@@ -6,25 +6,30 @@ import os
 from typing import Dict, List, Mapping, NamedTuple, Optional, Sequence, Set, Tuple
 
 import fontcut
-from fontcut_output import Progress
+from fontcut_output import Progress, read
 
 from . import drawn, preparing, shaped, shaping
 from .axes import kind_for
 from .common import SHAPED, Refused, codes_in
 from .faces import Face, face_of, varying
-from .inputs import accepted, mapped, refusing
+from .inputs import accepted, mapped, refusing, sha256
 from .prepare import Otherwise, made_of, wanted_of
 from .preparing import PrepareOptions
 from .processes import side_by_side
-from .sets import codes_of, page_range, range_words, some_words
+from .sets import codes_of, page_range, range_words, some_of, some_words
 from .shaped import Known, Said
 from .sheet import declarations
+from .site_drawn import Asked, check
 from .site_pages import CLOSED, EXACT, Modes, SitePage
 from .site_settings import FILE, FontSettings
 from .site_state import File, FontState, Place, SectionState, State, digest, digest_of
 from .site_written import letters_with, with_text, written_by
+from .styles import sheets_of
 from .woff import packed
 
+# What lets pages be that differ.
+_ACCEPTS = (f"those that are drawn alike are not drawn again, and {FILE} may name pages that are not to be drawn: "
+            "unchecked = [\"page.html\"]")
 # How many ranges of new characters are named.
 _NAMED = 8
 
@@ -317,6 +322,13 @@ def _made(run: Run, one: Section) -> Cut:
     return Cut(data, small, known)
 
 
+def _passed(run: Run, one: Section, modes: Modes) -> Dict[str, str]:
+    """The same after this run."""
+    if not run.is_drawn:
+        return _checked(one)
+    return {name: key for name, key in one.keys.items() if name not in modes.unchecked or name in _checked(one)}
+
+
 def _checked(one: Section) -> Dict[str, str]:
     """How each page of a section was read that was drawn by its cut as by the whole font, and is so since: what is
     joined into a cut changes nothing of other pages."""
@@ -325,9 +337,8 @@ def _checked(one: Section) -> Dict[str, str]:
     return {name: key for name, key in one.old.checked.items() if one.keys.get(name) == key}
 
 
-def _written(run: Run, one: Section, cut: Cut, known: Sequence[File]) -> SectionState:
+def _written(run: Run, one: Section, cut: Cut, known: Sequence[File], checked: Dict[str, str]) -> SectionState:
     """Writes the files of a section, and returns its state. Files of the last run are known."""
-    checked = one.keys if run.is_drawn else _checked(one)
     if one.old and cut.woff2 is None:
         return one.old._replace(pages=one.keys, checked=checked)
     file_name = f"{one.base.name}-{one.name}"
@@ -342,33 +353,38 @@ def _woff2(run: Run, one: Section, cut: Cut) -> bytes:
     return run.place.kept(run.place.output, one.old.woff2) or b""
 
 
-def _compared(run: Run, every: Sequence[Section], cuts: Sequence[Cut]) -> List[drawn.Compared]:
-    """The pages that were not drawn yet as they are now, with their fonts and cuts: all of a page by each font, or if
-    fonts have parts of it, all of these at once."""
-    asked = [(one, cut, page) for one, cut in zip(every, cuts) for page in one.pages if page.name not in _checked(one)]
-    found: List[drawn.Compared] = []
-    for one, cut, page in (row for row in asked if not row[2].is_part):
-        found.append(drawn.Drawn(page.path, one.base.whole.data, _woff2(run, one, cut), drawn.is_still(page.page),
+def _asked(run: Run, every: Sequence[Section], cuts: Sequence[Cut], name: str) -> Asked:
+    """A page of this name with its fonts and cuts: all of it by each font, or if fonts have parts of it, all of these
+    at once."""
+    its = [(one, cut, page) for one, cut in zip(every, cuts) for page in one.pages if page.name == name]
+    page = its[0][2]
+    is_still, found = drawn.is_still(page.page), []  # type: bool, List[drawn.Compared]
+    for one, cut, page in (row for row in its if not row[2].is_part and name not in _checked(row[0])):
+        found.append(drawn.Drawn(page.path, one.base.whole.data, _woff2(run, one, cut), is_still,
                                  page_range(codes_of(cut.data))))
-    for path, is_still in {page.path: drawn.is_still(page.page) for _, _, page in asked if page.is_part}.items():
-        fonts = [drawn.Family(one.base.face.family, declarations(one.base.face), one.base.whole.data,
-                              _woff2(run, one, cut), page_range(codes_of(cut.data)))
-                 for one, cut in zip(every, cuts) if any(page.path == path for page in one.pages)]
-        found.append(drawn.DrawnBy(path, fonts, is_still))
-    return found
+    if any(page.is_part and name not in _checked(one) for one, _, page in its):
+        found.append(drawn.DrawnBy(page.path, [drawn.Family(
+            one.base.face.family, declarations(one.base.face), one.base.whole.data, _woff2(run, one, cut),
+            page_range(codes_of(cut.data))) for one, cut, _ in its], is_still))
+    sheets = [sheet.text for sheet in sheets_of(page.page, page.path)[0]]
+    keys = sorted([_cuts_of(one.base), one.keys[name], *declarations(one.base.face)] for one, _, _ in its)
+    return Asked(found, digest_of([name, sha256(read(page.path)), sheets, keys]))
 
 
-def _check(run: Run, every: Sequence[Section], cuts: Sequence[Cut]) -> str:
+def _check(run: Run, every: Sequence[Section], cuts: Sequence[Cut], modes: Modes) -> str:
     """Draws the pages that were not drawn yet, and says which these are."""
     run.progress.say("drawing pages")
-    compared = _compared(run, every, cuts)
-    count, most = len({one.page for one in compared}), len({page.path for one in every for page in one.pages})
+    names = list(dict.fromkeys(page.name for one in every for page in one.pages))
+    left = [name for name in names if name in modes.unchecked]
+    drawn_names = [name for name in names if name not in modes.unchecked and any(
+        page.name == name and name not in _checked(one) for one in every for page in one.pages)]
+    count = check(run.place, [_asked(run, every, cuts, name) for name in drawn_names], _ACCEPTS)
+    unchecked = f"; not {some_of(left)}, by unchecked of the settings" if left else ""
     if not count:
         return (f"checked: no page, for none has changed since it was; --anew --check makes all anew and checks all "
-                f"({most})")
-    drawn.check(compared)
-    others = "; the others were before, and have not changed" if count < most else ""
-    return f"checked: {count} of {most} pages, which are drawn as by the whole fonts{others}"
+                f"({len(names)}){unchecked}")
+    others = "; the others were before, and have not changed" if count < len(names) - len(left) else ""
+    return f"checked: {count} of {len(names)} pages, which are drawn as by the whole fonts{others}{unchecked}"
 
 
 class Sections(NamedTuple):
@@ -383,12 +399,12 @@ def sections(run: Run, found: Sequence[Tuple[Base, Sequence[SitePage]]], modes: 
     every = [_section(run, base, name, [page for page in pages if page.section == name], modes)
              for base, pages in found for name in dict.fromkeys(page.section for page in pages)]
     cuts = side_by_side([functools.partial(_made, run, one) for one in every])
-    checked = [_check(run, every, cuts)] if run.is_drawn else []
+    checked = [_check(run, every, cuts, modes)] if run.is_drawn else []
     states: Dict[str, FontState] = {base.key: base.state._replace(sections={}) for base, _ in found}
     known = [one.old.woff2 for one in every if one.old]
     for one, cut in zip(every, cuts):
         state = states[one.base.key]
         for manner, parts in cut.known.items():
             state.shaped.setdefault(manner, {}).update(parts)
-        state.sections[one.name] = _written(run, one, cut, known)
+        state.sections[one.name] = _written(run, one, cut, known, _passed(run, one, modes))
     return Sections([states[base.key] for base, _ in found], checked)
