@@ -27,7 +27,7 @@ _PAIRS = ("\u201c\u201d", "\u2018\u2019", "\u201e\u201c", "\u201a\u2018", "\u201
           "\u2019\u2019", "\xab\xbb", "\xbb\xab", "\u2039\u203a", "\u203a\u2039", "\u300c\u300d", "\u300e\u300f")
 # In so many ways a line is shaped at most, beside that without what is added.
 MOST = 64
-_BLANKS = re.compile("[ \t\n\f\r]+")
+_BLANKS, _HALF = re.compile("[ \t\n\f\r]+"), re.compile("[\ud800-\udfff]")
 _QUOTES = {"open-quote": _OPEN, "close-quote": _CLOSE}
 _ADDRESSES = frozenset("url image-set -webkit-image-set image cross-fade element".split())
 
@@ -62,11 +62,16 @@ class Line(NamedTuple):
     open: str = ""
 
 
+def _text(string: Any) -> str:
+    """The text of a string, without halves of characters."""
+    return _HALF.sub("\ufffd", str(string.value))
+
+
 def _strings(tokens: Iterable[Any]) -> Iterator[str]:
     """The texts of strings, and of those in calls."""
     for one in tokens:
         if one.type == "string":
-            yield one.value
+            yield _text(one)
         elif one.type == "function":
             yield from _strings(one.arguments)
 
@@ -166,7 +171,7 @@ class Contents:
     def _item(self, one: Any, node: Any) -> Tuple[str, str]:
         """The text of a part of a value of `content`, and the characters of one that is not known."""
         if one.type == "string":
-            return one.value, ""
+            return _text(one), ""
         if one.type == "ident":
             return _QUOTES.get(one.lower_value, ""), ""
         if one.type != "function" or one.lower_name in _ADDRESSES:

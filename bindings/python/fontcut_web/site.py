@@ -23,7 +23,7 @@ from .site_report import REPORT, Made, check_faces, is_ours, lines, report, shee
 from .site_settings import FILE, Settings, named, settings_of
 from .site_state import NOTHING, FontState, Place, State, bytes_at, put_text
 from .site_text import SiteFont, views
-from .site_told import Lacked
+from .site_told import Lacked, lacking_of
 from .site_told import told as told_of
 from .site_written import written_by
 
@@ -130,7 +130,11 @@ def _run(run: Run, settings: Settings, before: State) -> Tuple[str, List[str]]:
     modes = modes_of(settings, pages)
     found, lacked = _bases(run, settings, pages, before)
     check_faces((page.section, base.face, base.settings.file) for base, its in found for page in its)
-    run.said.extend(told_of(settings, modes, found, pages, lacked))
+    run.said.extend(told_of(settings, modes, found, pages))
+    lacking = list(lacking_of(settings, found, pages, lacked))
+    if run.is_strict and lacking:
+        raise Refused("\n".join(lacking))
+    run.said.extend(lacking)
     states, checked = sections(run, found, modes)
     every = [one for (base, _), state in zip(found, states) for one in _made(run, base, state)]
     texts = sheets(every, settings.display)
@@ -165,16 +169,16 @@ def run(given: argparse.Namespace) -> None:
     need("fontTools", "brotli", "tomli")
     settings = _settings(given.folder)
     place, said = Place(settings.output, settings.work), []  # type: Place, List[str]
-    with place.locked(), Progress("fontcut-web") as progress:
+    with place.locked(), Progress("fontcut-web", given.quiet) as progress:
         before = NOTHING if given.anew else place.state()
         if before.programs and before.programs != programs():
             said.append("all fonts are made anew: a program has another version")
             before = NOTHING
         try:
-            told, last = _run(Run(place, said, given.check, given.whole, progress), settings, before)
+            told, last = _run(Run(place, said, given.check, given.whole, given.strict, progress), settings, before)
         except Differs:
-            _say(said)
+            _say(() if given.quiet else said)
             raise
-    _say([*said, *(last[:-1] if given.json else [])])
-    for line in [told.rstrip()] if given.json else [*lines(told), *last]:
+    _say(() if given.quiet else [*said, *(last[:-1] if given.json else [])])
+    for line in [told.rstrip()] if given.json else [] if given.quiet else [*lines(told), *last]:
         print_line(line)

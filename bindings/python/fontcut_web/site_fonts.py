@@ -36,12 +36,13 @@ _NAMED = 8
 
 class Run(NamedTuple):
     """A run: its folders, what is said in it, whether pages are drawn, whether their bytes are compared with those of
-    whole fonts, and how far it is."""
+    whole fonts, whether no font may lack characters of a page, and how far it is."""
 
     place: Place
     said: List[str]
     is_drawn: bool
     is_compared: bool
+    is_strict: bool
     progress: Progress
 
 

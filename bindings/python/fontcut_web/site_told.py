@@ -9,7 +9,7 @@ import fontcut
 from . import sequences
 from .common import SHAPED
 from .sets import some_of, some_words
-from .shown import BY_FEATURES, FIELDS, LOST, OPEN, SCRIPTS, added_to
+from .shown import BY_FEATURES, FIELDS, LABELS, LOST, OPEN, SCRIPTS, added_to
 from .site_fonts import Base
 from .site_pages import EXACT, Modes, SitePage
 from .site_settings import Settings
@@ -124,9 +124,18 @@ def _open(modes: Modes, found: Sequence[Tuple[Base, Sequence[SitePage]]]) -> Ite
         yield f"{some_of(list(names))}: {OPEN}"
 
 
-def told(settings: Settings, modes: Modes, found: Sequence[Tuple[Base, Sequence[SitePage]]], pages: Sequence[SitePage],
-         lacked: Lacked) -> Iterator[str]:
-    """What is not known of pages, and which characters no font of theirs has, or of the elements that have them."""
+def lacking_of(settings: Settings, found: Sequence[Tuple[Base, Sequence[SitePage]]], pages: Sequence[SitePage],
+               lacked: Lacked) -> Iterator[str]:
+    """What is said of characters of pages that no font of theirs has, or of the elements that have them."""
+    for one in _of_pages(found, pages):
+        codes = _lacking_codes(one)
+        yield from _lacking(settings, one, codes)
+        yield from _lacking_here(one.page, lacked.get(one.page.name, ()), set(codes))
+
+
+def told(settings: Settings, modes: Modes, found: Sequence[Tuple[Base, Sequence[SitePage]]], pages: Sequence[SitePage]
+         ) -> Iterator[str]:
+    """What is not known of pages, and what is drawn otherwise by cuts."""
     shown = _of_pages(found, pages)
     for one in shown:
         yield from _unknown(one, modes)
@@ -135,10 +144,8 @@ def told(settings: Settings, modes: Modes, found: Sequence[Tuple[Base, Sequence[
                 base.settings.languages for base in one.fonts):
             yield (f"{page.shown.path}: readers write to it, and letters that it does not show are of no font of it: "
                    "name languages of the page or of a font")
-    for one in shown:
-        lacking = _lacking_codes(one)
-        yield from _lacking(settings, one, lacking)
-        yield from _lacking_here(one.page, lacked.get(one.page.name, ()), set(lacking))
+    labelled = [one.page.name for one in shown if one.page.page.labels]
+    yield from [f"{some_of(labelled)}: {LABELS}"] if labelled else []
     yield from _open(modes, found)
     yield from _colours(shown)
     for one in shown:

@@ -13,10 +13,10 @@ from fontcut_output import Progress, print_line, write
 
 from . import losses, pages, sequences, styles
 from .common import SHAPED, Missing, Refused, UsageError, need, part
-from .inputs import accepted, as_file, mapped, read_pages, refusing
+from .inputs import accepted, as_file, dropped_tables, mapped, read_pages, refusing
 from .replaced import check_font, check_name, check_written, is_same
 from .sets import Slice, page_range, range_words, some_words
-from .shown import OPEN, Shown, letters_of, read_styles, shown_by
+from .shown import LABELS, OPEN, Shown, letters_of, read_styles, shown_by
 
 # What is said of an option without a character, as where a variable of a shell is empty.
 NO_TEXT = "--text is empty: it names no character"
@@ -227,11 +227,14 @@ def run(given: argparse.Namespace) -> None:
     *paths, source, out = given.files
     _needed(given)
     read = read_pages(paths, ": pages come first")
-    font = accepted(source)
+    drop, font = dropped_tables(given.drop or [], given.kind), accepted(source)
     if not given.force:
         check_font(source, font, out)
         if given.css:
             check_written([_sheet_beside(out)])
+    if drop:
+        with refusing(source):
+            font = fontcut.Font(part("woff").without(font.data, drop))
     given.named = given.kind
     given.kind = given.kind or part("axes").kind_for(font.data, zip(read, paths))
     more = styles.features_of(given.features or [])
@@ -240,7 +243,8 @@ def run(given: argparse.Namespace) -> None:
     cut = _made(given, font, source, shown)
     with refusing(source):
         data = part("woff").packed(cut.data) if out.lower().endswith(".woff2") else cut.data
-    notices = _dropped(given, source, font, cut, shown)
+    notices = [*_dropped(given, source, font, cut, shown),
+               *(f"{path}: {LABELS}" for page, path in zip(read, paths) if page.labels)]
     if given.check:
         drawn = part("drawn")
         ranges = page_range(cut.codes) if given.css else ""
