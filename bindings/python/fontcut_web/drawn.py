@@ -321,7 +321,7 @@ class Differs(Refused):
 
 def check(every: Sequence[Compared]) -> None:
     """Raises `Differs` for the pages that are not drawn by a cut as by the whole font."""
-    lines = list(filter(None, differences(every)))
+    lines = [f"{one.page}: {line}" for one, line in zip(every, differences(every)) if line]
     if lines:
         raise Differs(lines)
 
@@ -340,4 +340,4 @@ def differences(every: Sequence[Compared]) -> List[str]:
 
 def _told(program: str, one: Compared, difference: Difference) -> str:
     """What is said of a page that differs."""
-    return f"{one.page}: {kept(_placed(program, one, difference))}"
+    return kept(_placed(program, one, difference))

@@ -24,13 +24,14 @@ _NEAR = {"italic": ("italic", "oblique", "normal"), "oblique": ("oblique", "ital
 
 class Choice(NamedTuple):
     """A font that elements may have: its family in small letters, its style, the least and the greatest of its weights,
-    its width, and the characters that it has."""
+    its width, the characters that it has, and whether these are typed by the names of icons."""
 
     family: str
     style: str
     weights: Tuple[float, float]
     stretch: str
     codes: FrozenSet[int]
+    has_icons: bool = False
 
 
 def _by_style(faces: Sequence[int], every: Sequence[Choice], style: str) -> List[int]:
@@ -218,15 +219,29 @@ class Lacked(NamedTuple):
     codes: Set[int]
 
 
+def _icons(fonts: Dict[Any, Fonts], chooser: Chooser, contents: Contents) -> Dict[int, Set[str]]:
+    """The words of elements that a font of icons draws alone."""
+    found: Dict[int, Set[str]] = {face: set() for face, one in enumerate(chooser.every) if one.has_icons}
+    for node, its in fonts.items() if found else ():
+        for word in () if tag_of(node) in SILENT or tag_of(node) in _HEAD else _own_text(node, contents).split():
+            faces = chooser.chosen(its, word)
+            if len(faces) == 1 and chooser.is_known(its) and not faces.isdisjoint(found):
+                found[min(faces)].add(word)
+    return found
+
+
 class Drawn(NamedTuple):
     """The lines that each font may draw of a page, if it may draw any, or a blank: that of the font of an element makes
     the height of its lines; the characters of those of which not all is known; all letters of the page that were read;
-    and those that no font of their own element has."""
+    those that no font of their own element has; the words of elements that a font of icons draws alone; and the
+    families that elements have."""
 
     lines: Dict[int, List[str]]
     open: Dict[int, List[str]]
     letters: Set[str]
     lacked: List[Lacked]
+    icons: Dict[int, Set[str]]
+    families: Set[str]
 
 
 def _own_text(node: Any, contents: Contents) -> str:
@@ -293,4 +308,5 @@ def drawn_texts(data: bytes, asked: Asked, every: Sequence[Choice]) -> Drawn:
                                    for one in several))
     found = {face: list(dict.fromkeys(some)) for face, some in enumerate(lines) if some or face in used}
     return Drawn(found, unknown, {letter for block in blocks for word, _ in block for letter in word},
-                 list(_lacked(fonts, chooser, contents)))
+                 list(_lacked(fonts, chooser, contents)), _icons(fonts, chooser, contents),
+                 {name for one in fonts.values() for names in one.families for name in names})

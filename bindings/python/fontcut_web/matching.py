@@ -36,7 +36,7 @@ def _near(page: Page, every: Sequence[Selectors]) -> Set[Selectors]:
     return {one for one in every if any(subject.may_be(element) for subject in one.subjects for element in elements)}
 
 
-def _matching(page: Page, path: str, every: Sequence[Selectors]) -> Set[Selectors]:
+def matched(page: Page, path: str, every: Sequence[Selectors]) -> Set[Selectors]:
     """Those of some selectors that may be about an element of a page in a file."""
     near = _near(page, every)
     asked = [one for one in near if one.is_whole and not _PLAIN.fullmatch(one.prelude)]
@@ -64,4 +64,4 @@ def lines_added(page: Page, path: str, numbers: str) -> Tuple[List[str], List[st
 def matching_of(page: Page, path: str) -> Optional[Matching]:
     """Tells which selectors may be about an element of a page in a file; nothing where scripts run, which may change
     its elements."""
-    return None if "scripts" in page.writers else functools.partial(_matching, page, path)
+    return None if "scripts" in page.writers else functools.partial(matched, page, path)

@@ -76,8 +76,8 @@ class Page(NamedTuple):
     browsers add to elements, as numbers of lists; the languages that it names; its style sheets, and the addresses of
     others; `rtl` if a part goes from right to left, and `override` if one does whatever its letters are; which scripts
     and fields it has that write other text; the values of attributes, by their names; its elements, each with the place
-    of the one in which it stands, before it; whether browsers put quotation marks around some; and what they write by
-    themselves, in their own language, in fields and on buttons."""
+    of the one in which it stands, before it; whether browsers put quotation marks around some; what they write by
+    themselves, in their own language, in fields and on buttons; and words that stand alone between tags."""
 
     text: str
     blocks: List[str]
@@ -91,6 +91,7 @@ class Page(NamedTuple):
     elements: List[Placed]
     has_quotes: bool
     labels: List[str]
+    words: List[str]
 
 
 class _Reader(HTMLParser):
@@ -178,7 +179,8 @@ class _Reader(HTMLParser):
         return Page("".join(self.texts), lines_of("".join(self.running)), list(filter(None, found["made"])),
                     found["languages"], found["styles"], found["links"], self.directions, found["writers"],
                     {name: list(values) for name, values in self.attributes.items()}, elements,
-                    any(element.tag == "q" for _, element in elements), found["labels"])
+                    any(element.tag == "q" for _, element in elements), found["labels"],
+                    list(dict.fromkeys(text.strip() for text in self.texts if len(text.split()) == 1)))
 
 
 def decoded(data: bytes) -> str:

@@ -79,6 +79,7 @@ def _bases(run: Run, settings: Settings, pages: Sequence[SitePage], before: Stat
     run.said.extend(seen.said)
     every, empty = [], {page.name for page in pages if page.is_empty}  # type: List[Wished], Set[str]
     for number, (font, shown) in enumerate(zip(fonts, seen.pages), 1):
+        family = font.settings.family or face_of(font.whole.data, font.name).family
         run.said.extend(_lacking_features(font))
         its = _shown_in(run, font, shown, empty)
         wishes = wished(font.settings, font.name, font.whole, its, languages, before)
@@ -86,9 +87,10 @@ def _bases(run: Run, settings: Settings, pages: Sequence[SitePage], before: Stat
                 page.name in empty or mapped(font.whole, page.letters)) for page in pages):
             raise Refused(f"{font.settings.file}: it maps no character of its pages")
         if not wishes:
-            run.said.append(f"font {number}, {font.settings.file}: no page draws text in it: nothing is made of it")
+            run.said.append(f"font {number}, {font.settings.file}: no page draws text in it: nothing is made of it"
+                            f"{seen.near_to(family)}")
         run.said.extend(f"font {number}, {font.settings.file}: {line}" for line in own_faces.told(
-            font.settings.file, font.settings.family or face_of(font.whole.data, font.name).family,
+            font.settings.file, family,
             {face for page in pages if page.name in font.pages for face in page.read.faces}, settings.folder,
             [one.file for one in settings.fonts]))
         every += wishes

@@ -13,8 +13,9 @@ _DRAWN = "drawn.json"
 
 
 class Asked(NamedTuple):
-    """A page that is to be drawn: in which fonts, and a digest of what its pictures depend on."""
+    """A page of this name that is to be drawn: in which fonts, and a digest of what its pictures depend on."""
 
+    name: str
     compared: List[drawn.Compared]
     digest: str
 
@@ -32,7 +33,7 @@ def check(place: Place, asked: Sequence[Asked], accepts: str) -> int:
     known = _known(place)
     new = [one for one in asked if one.digest not in known]
     said = iter(drawn.differences([each for one in new for each in one.compared]))
-    found = [[line for line in (next(said) for _ in one.compared) if line] for one in new]
+    found = [[f"{one.name}: {line}" for line in (next(said) for _ in one.compared) if line] for one in new]
     lines = [line for some in found for line in some]
     if lines:
         passed = known.union(one.digest for one, some in zip(new, found) if not some)

@@ -369,7 +369,7 @@ def _asked(run: Run, every: Sequence[Section], cuts: Sequence[Cut], name: str) -
             page_range(codes_of(cut.data))) for one, cut, _ in its], is_still))
     sheets = [sheet.text for sheet in sheets_of(page.page, page.path)[0]]
     keys = sorted([_cuts_of(one.base), one.keys[name], *declarations(one.base.face)] for one, _, _ in its)
-    return Asked(found, digest_of([name, sha256(read(page.path)), sheets, keys]))
+    return Asked(name, found, digest_of([name, sha256(read(page.path)), sheets, keys]))
 
 
 def _check(run: Run, every: Sequence[Section], cuts: Sequence[Cut], modes: Modes) -> str:

@@ -8,6 +8,7 @@ import fontcut
 
 from . import sequences
 from .common import SHAPED
+from .matching import matched
 from .sets import some_of, some_words
 from .shown import BY_FEATURES, FIELDS, LABELS, LOST, OPEN, SCRIPTS, added_to
 from .site_fonts import Base
@@ -49,9 +50,9 @@ def _unknown(one: _Page, modes: Modes) -> Iterator[str]:
     is_written = bool(page.written.every or written_by([base.settings for base in one.fonts]).every)
     is_closed = page.name not in modes.closed and any(base.kind in SHAPED for base in one.fonts)
     for line in page.shown.unknown if page.name not in modes.exact else ():
-        line = line.replace(BY_FEATURES, "")
+        line = line.replace(BY_FEATURES, "").replace(f"{page.shown.path}: ", f"{page.name}: ", 1)
         if line.endswith(SCRIPTS):
-            line = f"{page.shown.path}: it runs scripts"
+            line = f"{page.name}: it runs scripts"
             helps = [*([_CLOSED_FOR_TEXT] if is_closed else []), *([] if is_written else [_LETTERS])]
         else:
             helps = [*([_ADDED] if line.endswith(LOST) else []), *([_CLOSED_FOR_FEATURES] if is_closed else [])]
@@ -101,10 +102,15 @@ def _lacking(settings: Settings, one: _Page, codes: Sequence[int]) -> Iterator[s
     page = one.page
     own = {ord(letter) for letter in f"{page.page.text}{page.written.text}"}
     texts = list(_texts(page)) if set(codes) - own else []
+    asked = list(dict.fromkeys(source.selectors for some, source in texts if not some.isdisjoint(codes)))
+    matching = matched(page.page, page.path, asked)
     origins: Dict[str, List[int]] = {}
     for code in codes:
-        source = next((source for some, source in texts if code in some), None) if code not in own else None
-        origins.setdefault(f", which {_origin(settings, source)}" if source else "", []).append(code)
+        sources = [source for some, source in texts if code in some] if code not in own else []
+        # A rule that is about no element may be one of another page, even if a script could make such an element.
+        source = next((one for one in sources if not one.path or one.selectors in matching), None)
+        if source or not sources:
+            origins.setdefault(f", which {_origin(settings, source)}" if source else "", []).append(code)
     yield from (f"{page.name}: no font of it has {some_words(some)}{origin}" for origin, some in origins.items())
 
 
@@ -142,7 +148,7 @@ def told(settings: Settings, modes: Modes, found: Sequence[Tuple[Base, Sequence[
         page = one.page
         if page.shown.has_fields and not page.written.letters and not any(
                 base.settings.languages for base in one.fonts):
-            yield (f"{page.shown.path}: readers write to it, and letters that it does not show are of no font of it: "
+            yield (f"{page.name}: readers write to it, and letters that it does not show are of no font of it: "
                    "name languages of the page or of a font")
     labelled = [one.page.name for one in shown if one.page.page.labels]
     yield from [f"{some_of(labelled)}: {LABELS}"] if labelled else []

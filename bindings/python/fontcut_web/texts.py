@@ -130,6 +130,16 @@ def _dropped(given: argparse.Namespace, source: str, font: fontcut.Font, cut: Cu
     return lines
 
 
+def _unmade(font: fontcut.Font, words: Sequence[str]) -> List[str]:
+    """What is said of words of a page that name no icon of a font of icons, where fontTools is there to know these."""
+    with contextlib.suppress(Missing):
+        icons = part("icons")
+        if icons.may_have_icons(font) and icons.is_of_icons(font):
+            found: List[str] = icons.unmade(font, words, is_of_text=True)
+            return found
+    return []
+
+
 def _sheet_beside(out: str) -> str:
     """The path of the style sheet beside OUT."""
     return f"{os.path.splitext(out)[0]}.css"
@@ -244,7 +254,9 @@ def run(given: argparse.Namespace) -> None:
     with refusing(source):
         data = part("woff").packed(cut.data) if out.lower().endswith(".woff2") else cut.data
     notices = [*_dropped(given, source, font, cut, shown),
-               *(f"{path}: {LABELS}" for page, path in zip(read, paths) if page.labels)]
+               *(f"{path}: {LABELS}" for page, path in zip(read, paths) if page.labels),
+               *(f"{path}: {source} has {line}" for page, path in zip(read, paths)
+                 for line in _unmade(font, page.words))]
     if given.check:
         drawn = part("drawn")
         ranges = page_range(cut.codes) if given.css else ""
