@@ -2,6 +2,7 @@
 from __future__ import annotations
 
 import functools
+import itertools
 import os
 from typing import Dict, List, Mapping, NamedTuple, Optional, Sequence, Set, Tuple
 
@@ -9,7 +10,7 @@ import fontcut
 from fontcut_output import Progress, read
 
 from . import drawn, preparing, shaped, shaping
-from .axes import kind_for
+from .axes import kind_for, unused
 from .common import SHAPED, Refused, codes_in
 from .faces import Face, face_of, varying
 from .inputs import accepted, mapped, refusing, sha256
@@ -79,11 +80,11 @@ def _features(one: FontSettings, pages: Sequence[SitePage]) -> Optional[List[str
     return None if asked is None else sorted({*asked, *turned_on})
 
 
-def _why(one: FontSettings, old: FontState, key: str, pages: Sequence[SitePage], codes: Sequence[int],
+def _why(old: FontState, keys: Sequence[str], pages: Sequence[SitePage], codes: Sequence[int],
          features: Optional[List[str]]) -> str:
     """Why a font is prepared anew, or an empty text."""
-    if old.key != key:
-        return "its file, its settings or a program has changed"
+    if old.key not in keys:
+        return "its file, its settings, the axes that pages use or a program has changed"
     lacking = sorted(set(codes) - _codes(old.codes))
     if lacking:
         new = set(map(chr, lacking))
@@ -139,8 +140,8 @@ def _prepared(one: Wished) -> Ready:
     """The font, prepared; or as it is, where it would shape text of pages otherwise then."""
     how, letters = one.settings, _letters(one.settings, one.pages)
     codes = mapped(one.whole, letters)
-    options = PrepareOptions(codes, _features(how, one.pages), how.hinting,
-                             preparing.limits_of(how.instance) if how.instance else {}, how.names, how.kern)
+    limits = preparing.limits_of(how.instance) if how.instance else dict.fromkeys(_unused(one))
+    options = PrepareOptions(codes, _features(how, one.pages), how.hinting, limits, how.names, how.kern)
     wanted = wanted_of(one.whole, codes, letters, [page.shown.blocks for page in one.pages])
     try:
         return Ready(made_of(how.file, one.whole, wanted, options).data)
@@ -159,7 +160,7 @@ def _put(run: Run, one: Wished, ready: Ready) -> FontState:
     run.said.extend([ready.why] if ready.why else [f"{os.path.basename(one.settings.file)} is prepared now, and its "
                                                    "files get new names"] if old and old.why else [])
     codes = mapped(one.whole, _letters(one.settings, one.pages))
-    return FontState(digest(one.whole.data), _key(one.settings, one.whole), prepared, range_words(codes),
+    return FontState(digest(one.whole.data), _key(one, _unused(one)), prepared, range_words(codes),
                      None if ready.why else _features(one.settings, one.pages), _known_whole(one),
                      old.sections if old and is_as_before else {}, old.shaped if old and is_as_before else {},
                      ready.why, _tried(one.pages) if ready.why else "")
@@ -186,11 +187,25 @@ def _letters(one: FontSettings, pages: Sequence[SitePage]) -> Set[str]:
     return set().union(*(page.letters | page.written.every for page in pages), written_by([one]).every)
 
 
-def _key(one: FontSettings, whole: fontcut.Font) -> str:
-    """A digest of what a prepared font is made of, beside the pages."""
-    options = {"languages": sorted(one.languages), "written": written_by([one]).digest, "features": one.features,
+def _unused(one: Wished) -> List[str]:
+    """The axes that no page uses, which a prepared font goes without, unless its settings say which it has."""
+    how = one.settings
+    return [] if how.kind or how.instance else unused(one.whole.data, [(page.page, page.path) for page in one.pages])
+
+
+def _keys(one: Wished) -> List[str]:
+    """Digests of what a prepared font may be made of: without all axes that no page uses, or with some of these."""
+    tags = _unused(one)
+    return [_key(one, some) for count in range(len(tags), -1, -1) for some in itertools.combinations(tags, count)]
+
+
+def _key(wanted: Wished, pinned: Sequence[str]) -> str:
+    """A digest of what a prepared font is made of, beside the characters of pages: without some axes."""
+    one = wanted.settings
+    options: Dict[str, object] = {"languages": sorted(one.languages), "written": written_by([one]).digest, "features": one.features,
                "hinting": one.hinting, "names": one.names, "kern": one.kern, "instance": one.instance}
-    return digest(whole.data, digest_of(options).encode())
+    options.update({"pinned": list(pinned)} if pinned else {})
+    return digest(wanted.whole.data, digest_of(options).encode())
 
 
 def _kept(run: Run, one: Wished) -> Optional[FontState]:
@@ -198,13 +213,13 @@ def _kept(run: Run, one: Wished) -> Optional[FontState]:
     not prepared that is said again, unless its pages have changed."""
     if one.old is None or run.place.kept(run.place.work, one.old.prepared) is None:
         return None
-    if one.old.why and one.old.key == _key(one.settings, one.whole):
+    keys = _keys(one)
+    if one.old.why and one.old.key in keys:
         is_same = one.old.tried == _tried(one.pages)
         run.said.extend([one.old.why] if is_same else [])
         return one.old if is_same else None
     codes = mapped(one.whole, _letters(one.settings, one.pages))
-    why = _why(one.settings, one.old, _key(one.settings, one.whole), one.pages, codes,
-               _features(one.settings, one.pages))
+    why = _why(one.old, keys, one.pages, codes, _features(one.settings, one.pages))
     if why:
         its = f" for pages in {one.languages.replace('-', ', ')}" if one.languages else ""
         run.said.append(f"{os.path.basename(one.settings.file)} is prepared anew{its}, and its files get new names: "

@@ -42,7 +42,7 @@ def _fitted(given: argparse.Namespace, font: fontcut.Font, shown: Sequence[Shown
     """The font, prepared for pages. Raises `Refused` where that cannot be."""
     codes = mapped(font, set().union(*map(letters_of, shown)))
     features: Set[str] = set().union(*(page.turned_on for page in shown))
-    prepared: fontcut.Font = part("fitted").fitted(font, codes, given.kind, features)
+    prepared: fontcut.Font = part("fitted").fitted(font, codes, given.kind, features, given.unused)
     return prepared
 
 
@@ -145,13 +145,13 @@ def _sheet_beside(out: str) -> str:
     return f"{os.path.splitext(out)[0]}.css"
 
 
-def _write_sheet(given: argparse.Namespace, font: fontcut.Font, source: str, codes: List[int]) -> Dict[str, object]:
+def _write_sheet(given: argparse.Namespace, font: fontcut.Font, source: str, cut: Cut) -> Dict[str, object]:
     """Writes a style sheet beside OUT that gives the cut the font's family. Returns what `--json` reports of it."""
     out: str = given.files[-1]
     faces, sheet = part("faces"), part("sheet")
     face = faces.face_of(font.data, os.path.splitext(os.path.basename(source))[0])
-    face = faces.varying(font.data, face) if given.kind == "variable" else face
-    placed = sheet.Placed(Slice(os.path.basename(out), codes), os.path.basename(out))
+    face = faces.varying(cut.data, face) if given.kind == "variable" else face
+    placed = sheet.Placed(Slice(os.path.basename(out), cut.codes), os.path.basename(out))
     styled = [sheet.Styled(face, face, [placed])]
     path = _sheet_beside(out)
     write(path, sheet.style_sheet(styled, given.display, "text").encode())
@@ -246,6 +246,7 @@ def run(given: argparse.Namespace) -> None:
         with refusing(source):
             font = fontcut.Font(part("woff").without(font.data, drop))
     given.named = given.kind
+    given.unused = [] if given.kind else part("axes").unused(font.data, zip(read, paths))
     given.kind = given.kind or part("axes").kind_for(font.data, zip(read, paths))
     more = styles.features_of(given.features or [])
     shown = [shown_by(page, path, read_styles(page, path), more, given.text or "") for page, path in zip(read, paths)]
@@ -263,5 +264,5 @@ def run(given: argparse.Namespace) -> None:
         every = [drawn.Drawn(path, font.data, data, drawn.is_still(page), ranges) for path, page in zip(paths, read)]
         _check_drawn(given, every, [*cut.warnings, *notices])
     write(out, data)
-    sheet = _write_sheet(given, font, source, cut.codes) if given.css else {}
+    sheet = _write_sheet(given, font, source, cut) if given.css else {}
     _report(given, len(data), cut, lacking, notices, sheet)
