@@ -201,7 +201,7 @@ function runSubset(given, [font, out, ...words]) {
     if (standsApart(given, out, [font])) {
         keepFont(given, out, font, data, `subset ${out} OUT cuts the font`);
     } else {
-        keepItself(given, out, font, data, kind);
+        keepItself(given, out, font, data);
     }
     writeFont(out, refusing(given, font, data, () =>
         cutOf(data, { unicodes, gids, kind, layoutClosure: !given['no-layout-closure'] })));
@@ -385,10 +385,10 @@ function checkName(given, out) {
     }
 }
 
-// Fails if a lean, layout or variable cut would replace its font.
-function keepItself(given, out, font, data, kind) {
+// Fails if a cut would replace its font.
+function keepItself(given, out, font, data) {
     const isSame = isFile(font) && isFile(out) && realpathSync(font) === realpathSync(out);
-    if (given.force || kind === 'full' || !isSame || isCut(data)) {
+    if (given.force || !isSame || isCut(data)) {
         return;
     }
     const more = given.quiet ? '' : `\nfontcut: name another OUT; --force replaces ${font}`;

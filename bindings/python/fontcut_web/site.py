@@ -13,6 +13,7 @@ from . import own_faces, preparing, site_example
 from .common import Refused, UsageError, need
 from .drawn import Differs
 from .faces import face_of
+from .feature_tags import check_spelling
 from .icons import is_of_icons
 from .inputs import accepted, mapped
 from .sets import codes_of
@@ -47,6 +48,7 @@ def _lacking_features(font: SiteFont) -> List[str]:
     """What is said of features that the settings of a font name and the font does not have."""
     named = set(preparing.features_of(font.settings.features) or []) - set(preparing.default_features())
     lacking = preparing.lacking_features(font.whole.data, named)
+    check_spelling(font.settings.file, lacking)
     return [f"{font.settings.file} has no feature {', '.join(lacking)}"] if lacking else []
 
 

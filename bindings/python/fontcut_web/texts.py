@@ -115,7 +115,9 @@ def _unknown_features(given: argparse.Namespace, source: str, font: fontcut.Font
     """What is said of features that `--features` turns on and the font does not have."""
     tags = {tag for one in styles.features_of(given.features or []) for tag, value in one if value}
     lacking = part("preparing").lacking_features(font.data, tags) if tags else []
-    return [f"{source} has no feature {', '.join(lacking)}"] if lacking else []
+    near = part("feature_tags").misspelt(lacking)
+    return [f"{source} has no feature {', '.join(lacking)}{': did you mean ' if near else ''}"
+            f"{', '.join(near.values())}{'?' if near else ''}"] if lacking else []
 
 
 def _dropped(given: argparse.Namespace, source: str, font: fontcut.Font, cut: Cut, shown: Sequence[Shown]) -> List[str]:
