@@ -27,7 +27,8 @@ class CommandParser(argparse.ArgumentParser):
 
     def __init__(self, *words: Any, **named: Any):
         # An abbreviation of one option may be meant for another one.
-        super().__init__(*words, **{"allow_abbrev": False, **named})
+        named["allow_abbrev"] = False
+        super().__init__(*words, **named)
         self.others: Dict[str, List[str]] = {}
 
     def parse_known_args(self, args: Any = None, namespace: Any = None) -> Any:

@@ -396,8 +396,8 @@ def _add_prepare(commands: argparse._SubParsersAction[CommandParser]) -> None:
     command.add_argument("--names", choices=("keep", "least"), default="keep",
                          help="keep all names of the font, or in English alone those that systems need (keep)")
     command.add_argument("--kern", choices=("auto", "keep", "drop"), default="auto",
-                         help="keep the table kern: auto keeps it where browsers take it and GPOS does not kern a script "
-                              "(auto)")
+                         help="keep the table kern: auto keeps it where browsers take it and GPOS does not kern a "
+                              "script (auto)")
     command.add_argument("--force", action="store_true", help="write over another whole font")
     command.add_argument("--json", action="store_true", help="print OUT.json, and not what was dropped")
     command.set_defaults(run=_run_prepare)
@@ -410,7 +410,8 @@ def _run_site(given: argparse.Namespace) -> None:
 def _add_site(commands: argparse._SubParsersAction[CommandParser]) -> None:
     command = commands.add_parser("site", help="make the fonts of all pages of a site", description=_SITE,
                                   formatter_class=_RAW, epilog=_STATUS,
-                                  usage="fontcut-web site DIR [--anew] [--check] [--whole] [--strict] [--quiet] [--json]")
+                                  usage="fontcut-web site DIR [--anew] [--check] [--whole] [--strict] [--quiet] "
+                                        "[--json]")
     command.add_argument("folder", metavar="DIR", help="the folder of the site, with its settings and its pages")
     command.add_argument("--anew", action="store_true", help="make all fonts anew, without characters that no page has "
                                                              "any more")
@@ -476,8 +477,8 @@ def _status(error: BaseException, install: str) -> int:
         said = reason(error)
     for line in said.split("\n"):
         print(f"fontcut-web: {line}", file=sys.stderr)
-    return {UsageError: 2, Refused: 1, fontcut.Refused: 1, MemoryError: 1}.get(
-        Refused if isinstance(error, Refused) else type(error), 3)
+    refusals = Refused, fontcut.Refused, MemoryError
+    return 2 if isinstance(error, UsageError) else 1 if isinstance(error, refusals) else 3
 
 
 def main(words: Optional[Sequence[str]] = None, install: str = INSTALL) -> int:

@@ -9,8 +9,8 @@ from typing import Any, Callable, Dict, List, NamedTuple, Optional, Sequence
 
 from fontcut_output import write
 
-# The leftmost pixel of the first line by which two pictures differ, and the rectangle of all that do; nothing, where one
-# is but higher than the other.
+# The leftmost pixel of the first line by which two pictures differ, and the rectangle of all that do; nothing, where
+# one is but higher than the other.
 _COMPARE = """(async () => {
     const every = [];
     for (const picture of %s) {
@@ -99,8 +99,8 @@ def words_of(ask: Ask, place: Optional[Sequence[int]], names: Callable[[str], st
     fonts = names(families)
     drawn_in = f", drawn in {fonts}" if fonts else ""
     added = f", where style sheets add {content[:_LONGEST]}" if part else ""
-    return (f", first at {x}, {y} in {name or 'the page'}{part} {text!r}{added}{drawn_in}; what differs is from {left}, {top} to "
-            f"{right}, {bottom}")
+    return (f", first at {x}, {y} in {name or 'the page'}{part} {text!r}{added}{drawn_in}; what differs is from {left}, "
+            f"{top} to {right}, {bottom}")
 
 
 def kept(difference: Difference) -> str:

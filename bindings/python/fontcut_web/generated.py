@@ -23,8 +23,9 @@ BEFORE, AFTER = "before", "after"
 # What stands for quotation marks in a text until they are known.
 _OPEN, _CLOSE = "\1", "\2"
 # Quotation marks that browsers take by the language, each with the one that ends what it begins.
-_PAIRS = ("\u201c\u201d", "\u2018\u2019", "\u201e\u201c", "\u201a\u2018", "\u201e\u201d", "\u201a\u2019", "\u201d\u201d",
-          "\u2019\u2019", "\xab\xbb", "\xbb\xab", "\u2039\u203a", "\u203a\u2039", "\u300c\u300d", "\u300e\u300f")
+_PAIRS = [("\u201c", "\u201d"), ("\u2018", "\u2019"), ("\u201e", "\u201c"), ("\u201a", "\u2018"), ("\u201e", "\u201d"),
+          ("\u201a", "\u2019"), ("\u201d", "\u201d"), ("\u2019", "\u2019"), ("\xab", "\xbb"), ("\xbb", "\xab"),
+          ("\u2039", "\u203a"), ("\u203a", "\u2039"), ("\u300c", "\u300d"), ("\u300e", "\u300f")]
 # In so many ways a line is shaped at most, beside that without what is added.
 MOST = 64
 _BLANKS, _HALF = re.compile("[ \t\n\f\r]+"), re.compile("[\ud800-\udfff]")
@@ -47,7 +48,7 @@ class _Content(NamedTuple):
     whether it is important, how special its selector is, and whether it surely applies."""
 
     place: str
-    values: List[Sequence[Any]]
+    values: Sequence[Sequence[Any]]
     sheet: int
     is_important: bool
     special: Tuple[int, ...]
@@ -95,8 +96,8 @@ class Contents:
         self.matcher, self.others = cssselect2.Matcher(), []  # type: Any, List[Tuple[Subject, _Content]]
         self.every = [*(block for *_, block, _ in cascade.blocks), *cascade.inline.values()]
         self.pairs = self._pairs(languages)
-        self.is_inside = any(one.lower_name.startswith("list-style") and "inside" in tinycss2.serialize(one.value).lower()
-                             for block in self.every for one in block)
+        lists = [one for block in self.every for one in block if one.lower_name.startswith("list-style")]
+        self.is_inside = any("inside" in tinycss2.serialize(one.value).lower() for one in lists)
         for number, prelude, block, is_sure in cascade.blocks:
             declared = [one for one in block if one.lower_name == "content"]
             for selector in listed(prelude) if declared else ():
@@ -179,8 +180,8 @@ class Contents:
         if one.lower_name == "attr":
             return _attribute(one, node)
         if one.lower_name == "var":
-            values = [value for words in one.arguments for value in self.cascade.custom.get(getattr(words, "value", ""), ())]
-            return "", "".join(text for value in values for text in _strings(value))
+            values = (self.cascade.custom.get(getattr(word, "value", ""), ()) for word in one.arguments)
+            return "", "".join(text for some in values for value in some for text in _strings(value))
         styles = counters.of_styles(tinycss2.serialize(one.arguments).rpartition(",")[2], has_marks=True)
         return "", "".join([counters.digits(), *styles, *_strings(one.arguments), self.numbers])
 

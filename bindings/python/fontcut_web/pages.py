@@ -29,7 +29,8 @@ _CONTROLS = re.compile("[\0-\x09\x0b-\x20\x7f-\x9f]+")
 _LABELS = {"submit": ["Submit", "Submit Query"], "reset": ["Reset"], "image": ["Submit", "Submit Query"],
            "file": ["Choose File", "Choose Files", "No file chosen", "Browse\u2026", "No file selected.",
                     "No files selected."],
-           "date": ["mm/dd/yyyy"], "time": ["--:-- --", "AM", "PM"], "datetime-local": ["mm/dd/yyyy, --:-- --", "AM", "PM"],
+           "date": ["mm/dd/yyyy"], "time": ["--:-- --", "AM", "PM"],
+           "datetime-local": ["mm/dd/yyyy, --:-- --", "AM", "PM"],
            "month": ["--------- ----"], "week": ["Week --, ----"]}
 _NAMED_BY = {"submit": "value", "reset": "value", "image": "alt"}
 _SUMMARY = "Details"

@@ -232,7 +232,8 @@ def run(given: argparse.Namespace) -> None:
     limits = preparing.limits_of(given.instance) if given.instance else {}
     features = preparing.features_of(given.features)
     font = accepted(given.font)
-    check_spelling(given.font, preparing.lacking_features(font.data, {*(features or [])} - {*preparing.default_features()}))
+    asked = set(features or []) - set(preparing.default_features())
+    check_spelling(given.font, preparing.lacking_features(font.data, asked))
     wanted = _wanted(given, font)
     how = PrepareOptions(wanted.codes, features, not given.no_hinting, limits, given.names, given.kern)
     one = made_of(given.font, font, wanted, how)

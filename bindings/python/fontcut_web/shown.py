@@ -19,12 +19,12 @@ _TURNED = "\u05d0"
 _NUMBERS: Features = (("tnum", 1),)
 # What can be done about style sheets that are not understood.
 BY_FEATURES = ": name its features by --features"
-# What is said of a page with buttons and fields that say nothing, of one whose scripts may write text, of a style sheet that is not there, of a page with text of style
-# sheets that is not known, and of a page to which readers write.
+# What is said of a page whose scripts may write text, of a style sheet that is not there, of buttons and fields that
+# say nothing, of text of style sheets that is not known, and of a page to which readers write.
 SCRIPTS = "it runs scripts, and text that they write may vanish"
 LOST = "is no file beside it"
-LABELS = ("browsers write in fields and on buttons in their own language, of which English is known: value, alt and summary "
-          "say what they show")
+LABELS = ("browsers write in fields and on buttons in their own language, of which English is known: value, alt and "
+          "summary say what they show")
 OPEN = ("text that style sheets add is not all known before it is drawn, as numbers: letters in lines with it have all "
         "their forms")
 FIELDS = "it has fields, and text that readers write in this font may vanish"

@@ -101,8 +101,9 @@ def example(folder: str) -> Iterator[str]:
     fonts = inside or _faces(_of_system(styles))
     yield f"# Settings to copy to {os.path.join(folder, FILE)}. Pages that are there now: {len(names)}."
     yield f"pages = {json.dumps(settings.pages)}"
+    paths = [os.path.join(folder, path) for path in fonts.values()]
     for face, path in fonts.items():
-        families = called(os.path.join(folder, path), own, folder, [os.path.join(folder, one) for one in fonts.values()])
+        families = called(os.path.join(folder, path), own, folder, paths)
         yield from _lines_of(face, path, styles, families[0] if families else "")
     if not fonts:
         yield from ("", "[[font]]", 'file = "Sans.ttf"  # no font is here: write the path of one')

@@ -202,8 +202,9 @@ def _keys(one: Wished) -> List[str]:
 def _key(wanted: Wished, pinned: Sequence[str]) -> str:
     """A digest of what a prepared font is made of, beside the characters of pages: without some axes."""
     one = wanted.settings
-    options: Dict[str, object] = {"languages": sorted(one.languages), "written": written_by([one]).digest, "features": one.features,
-               "hinting": one.hinting, "names": one.names, "kern": one.kern, "instance": one.instance}
+    options: Dict[str, object] = {
+        "languages": sorted(one.languages), "written": written_by([one]).digest, "features": one.features,
+        "hinting": one.hinting, "names": one.names, "kern": one.kern, "instance": one.instance}
     options.update({"pinned": list(pinned)} if pinned else {})
     return digest(wanted.whole.data, digest_of(options).encode())
 
