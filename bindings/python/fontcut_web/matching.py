@@ -50,15 +50,16 @@ def matched(page: Page, path: str, every: Sequence[Selectors]) -> Set[Selectors]
     return near - {one for one in asked if not found[one]}
 
 
-def lines_added(page: Page, path: str, numbers: str) -> Tuple[List[str], List[str]]:
-    """The blocks of a page in a file with what style sheets add to them; and the characters of those of which not all
-    is known, which are all where it cannot be read as browsers read it."""
+def lines_added(page: Page, path: str, numbers: str, added: str) -> Tuple[List[str], List[str]]:
+    """The blocks of a page in a file with what style sheets add to them, of which these are the characters and those of
+    numbers; and the characters of those of which not all is known, which are all where the page cannot be read as
+    browsers read it."""
     if not lacking():
         with contextlib.suppress(*MALFORMED):
             generated = importlib.import_module(".generated", __package__)
             blocks, unknown = generated.texts_with(read(path), os.path.dirname(path), page.languages, numbers)
             return lines_of("\n".join(blocks)), lines_of("\n".join(unknown))
-    return [], [" ".join([*page.blocks, numbers])]
+    return [], [" ".join([*page.blocks, added])]
 
 
 def matching_of(page: Page, path: str) -> Optional[Matching]:

@@ -62,8 +62,9 @@ def read_styles(page: Page, path: str) -> Read:
     """Reads the style sheets of a page in a file."""
     sheets, lost = sheets_of(page, path)
     styles = styles_of(sheets, page.attributes.get("style", ()), page.languages, matching_of(page, path))
-    added = lines_added(page, path, numbers_of(page, styles)) if _has_added(page, styles) else ([], [])
-    return Read(styles, lost, own_faces.faces_of(sheets), added)
+    letters = "".join(dict.fromkeys("".join(one.text for one in _added(page, styles))))
+    lines = lines_added(page, path, numbers_of(page, styles), letters) if _has_added(page, styles) else ([], [])
+    return Read(styles, lost, own_faces.faces_of(sheets), lines)
 
 
 def _has_added(page: Page, styles: Styles) -> bool:
