@@ -295,7 +295,7 @@ def drawn_texts(data: bytes, asked: Asked, every: Sequence[Choice]) -> Drawn:
     blocks = [list(_words(block)) for block in pieces]
     _running(lines, (_chosen(chooser, block) for block in pieces))
     contents = Contents(cascade, asked.languages, asked.numbers)
-    unknown = _within(chooser, lines_with(contents) if contents.slots else (), fonts, lines)
+    unknown = _within(chooser, lines_with(contents), fonts, lines)
     # Where readers write, other words of the page are likely.
     written = (node for node in fonts if is_field(tag_of(node), node.attrib))
     fields = {fonts[each] for node in written for each in node.iter() if each in fonts}

@@ -13,8 +13,8 @@ from . import counters
 from .cascade import Cascade, element_of, known_selectors, listed, tag_of
 from .font_values import resolved
 from .pages import INLINE, SILENT
-from .rules import Subject, subjects_of
-from .selected import widened
+from .rules import Selectors, Subject, subjects_of
+from .selected import Selected, widened
 from .styles import quotes_of
 
 # What stands for a part of an element that text is added to, at the end of a selector.
@@ -41,6 +41,10 @@ class Slot(NamedTuple):
 
 
 NO_SLOT = Slot(("",))
+# Values of `display` by which an element is a part of a line, and elements that are so beside those of pages: those
+# that authors name, which have a hyphen, too.
+_IN_LINES = frozenset(["inline", "contents", "inline flow", "flow inline"])
+_INLINE = frozenset(["output", "map", "slot"])
 
 
 class _Content(NamedTuple):
@@ -66,6 +70,12 @@ class Line(NamedTuple):
 def _text(string: Any) -> str:
     """The text of a string, without halves of characters."""
     return _HALF.sub("\ufffd", str(string.value))
+
+
+def _is_in_line(declared: Any) -> bool:
+    """Whether a declaration makes an element a part of a line."""
+    value = " ".join(tinycss2.serialize(declared.value).lower().split())
+    return declared.lower_name == "display" and (value in _IN_LINES or "var(" in value)
 
 
 def _strings(tokens: Iterable[Any]) -> Iterator[str]:
@@ -103,7 +113,17 @@ class Contents:
             for selector in listed(prelude) if declared else ():
                 for one in declared:
                     self._add(selector, one, number, is_sure)
-        self.slots = self._slots()
+        self.slots, self.inline = self._slots(), set(self._inline())
+
+    def _inline(self) -> Iterator[Any]:
+        """The elements that may be parts of a line, beside those that are so in every page."""
+        rules = [(prelude, block) for _, prelude, block, _ in self.cascade.blocks if any(map(_is_in_line, block))]
+        selectors = [Selectors(one, tuple(subjects_of(one)), True) for prelude, _ in rules for one in listed(prelude)
+                     if not _PLACE.match(one)]
+        found = Selected(self.cascade.document, self.cascade.is_exact).elements_of(selectors)
+        yield from (node for nodes in found.values() for node in nodes)
+        yield from (node for node, block in self.cascade.inline.items() if any(map(_is_in_line, block)))
+        yield from (node for node in self.cascade.document.iter() if "-" in tag_of(node) or tag_of(node) in _INLINE)
 
     def _pairs(self, languages: Sequence[str]) -> List[str]:
         """The quotation marks that may stand around text, two and two: those of languages, and of style sheets."""
@@ -194,16 +214,17 @@ class Contents:
 _Piece = Tuple[Slot, Any]
 
 
-def _blocks(contents: Contents, node: Any) -> Iterator[List[_Piece]]:
-    """The blocks of an element and those in it, each in pieces; those of an inline element with added text by
-    themselves too, for it may stand in a line of its own."""
+def _blocks(contents: Contents, node: Any, inline: Set[Any]) -> Iterator[List[_Piece]]:
+    """The blocks of an element and those in it, each in pieces, where some elements are inline beside others; those of
+    an inline element with added text by themselves too, for it may stand in a line of its own."""
     found: List[_Piece] = []
 
     def walk(node: Any) -> Iterator[List[_Piece]]:
         tag = tag_of(node)
         if not tag or tag in SILENT:
             return
-        if tag not in INLINE:
+        is_inline = tag in INLINE or node in inline
+        if not is_inline:
             yield from _ended(found)
         start = len(found)
         before, after = (contents.of(node, place) for place in (BEFORE, AFTER))
@@ -215,7 +236,7 @@ def _blocks(contents: Contents, node: Any) -> Iterator[List[_Piece]]:
             if child.tail:
                 found.append((Slot((child.tail,)), node))
         found.append((after, node))
-        if tag not in INLINE:
+        if not is_inline:
             yield from _ended(found)
         elif node in contents.slots:
             yield list(found[start:])
@@ -267,17 +288,18 @@ def _ways(block: Sequence[_Piece], pairs: Sequence[str]) -> Iterator[Line]:
 
 
 def lines_with(contents: Contents) -> Iterator[Line]:
-    """The blocks of a page to which text is added, in each of the ways in which that may be."""
-    for block in _blocks(contents, contents.cascade.document):
-        slots: Set[Slot] = {slot for slot, _ in block if slot.open or len(slot.texts) > 1}
-        if slots or any(node in contents.slots for _, node in block):
-            yield from _ways(block, contents.pairs)
+    """The blocks of a page to which text is added, in each of the ways in which that may be, and those that are longer
+    than they look."""
+    for inline in [set(), contents.inline] if contents.inline else [set()]:
+        for block in _blocks(contents, contents.cascade.document, inline):
+            if any(node in contents.slots or node in inline for _, node in block):
+                yield from _ways(block, contents.pairs)
 
 
 def texts_with(data: bytes, folder: str, languages: Sequence[str], numbers: str) -> Tuple[List[str], List[str]]:
     """The blocks of a page to which text is added; and of those of which not all is known, the characters."""
     contents = Contents(Cascade(data, folder, lambda _: False), languages, numbers)
-    every = list(lines_with(contents)) if contents.slots else []
+    every = list(lines_with(contents))
     texts = [_BLANKS.sub(" ", "".join(text for text, _ in line.pieces)) + line.open for line in every]
     return ([text for text, line in zip(texts, every) if not line.open],
             [text for text, line in zip(texts, every) if line.open])

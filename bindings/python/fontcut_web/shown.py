@@ -1,6 +1,7 @@
 """What a page shows, as far as its text and its style sheets tell."""
 from __future__ import annotations
 
+import re
 import unicodedata
 from typing import Dict, Iterator, List, NamedTuple, Optional, Sequence, Set, Tuple
 
@@ -13,6 +14,8 @@ from .pages import Page, lines_of, shown
 from .rules import Selectors, Subject
 from .styles import Added, Features, Source, Styles, cased, features_in, quotes_of, sheets_of, styles_of
 
+# What makes an element a part of a line, which may be none otherwise.
+_IN_LINES = re.compile(r"(?<![\w-])display\s*:\s*(?:inline\s*(?:flow\s*)?(?:[;}!]|$)|contents|var\()", re.I)
 # A letter of Hebrew, which composes with nothing that is before it.
 _TURNED = "\u05d0"
 # Numbers of lists have figures of one width (HTML, Rendering, Lists).
@@ -63,7 +66,10 @@ def read_styles(page: Page, path: str) -> Read:
     sheets, lost = sheets_of(page, path)
     styles = styles_of(sheets, page.attributes.get("style", ()), page.languages, matching_of(page, path))
     letters = "".join(dict.fromkeys("".join(one.text for one in _added(page, styles))))
-    lines = lines_added(page, path, numbers_of(page, styles), letters) if _has_added(page, styles) else ([], [])
+    texts = [*(sheet.text for sheet in sheets), *page.attributes.get("style", ())]
+    is_asked = _has_added(page, styles) or any(map(_IN_LINES.search, texts)) or any(
+        "-" in element.tag for _, element in page.elements)
+    lines = lines_added(page, path, numbers_of(page, styles), letters) if is_asked else ([], [])
     return Read(styles, lost, own_faces.faces_of(sheets), lines)
 
 
