@@ -37,7 +37,8 @@ _LEAST = 3
 # How long scripts of a page run, by its own clock.
 _MILLISECONDS = 10000
 # Waits until the fonts are there that a page asks for when it is laid out, and lays all of it out anew by these: digits
-# upright in vertical lines keep the width that another font gave them.
+# upright in vertical lines keep the width that another font gave them. What is animated is drawn as it ends, and
+# without what has no end: pictures are of different moments.
 _FONTS = """(async () => {
     const root = document.documentElement;
     do {
@@ -49,6 +50,13 @@ _FONTS = """(async () => {
     root.getBoundingClientRect();
     root.style.removeProperty("display");
     root.getBoundingClientRect();
+    for (const one of document.getAnimations()) {
+        try {
+            one.finish();
+        } catch {
+            one.cancel();
+        }
+    }
 })()"""
 # Elements with pages of their own.
 _OTHERS = "iframe", "frame", "object", "embed"
