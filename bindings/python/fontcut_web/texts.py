@@ -13,6 +13,7 @@ from fontcut_output import Progress, print_line, write
 
 from . import losses, pages, sequences, styles
 from .common import SHAPED, Missing, Refused, UsageError, need, part
+from .feature_tags import misspelt
 from .inputs import accepted, as_file, dropped_tables, mapped, read_pages, refusing
 from .replaced import check_font, check_name, check_written, is_same
 from .sets import Slice, page_range, range_words, some_words
@@ -115,7 +116,7 @@ def _unknown_features(given: argparse.Namespace, source: str, font: fontcut.Font
     """What is said of features that `--features` turns on and the font does not have."""
     tags = {tag for one in styles.features_of(given.features or []) for tag, value in one if value}
     lacking = part("preparing").lacking_features(font.data, tags) if tags else []
-    near = part("feature_tags").misspelt(lacking)
+    near = misspelt(lacking)
     return [f"{source} has no feature {', '.join(lacking)}{': did you mean ' if near else ''}"
             f"{', '.join(near.values())}{'?' if near else ''}"] if lacking else []
 
