@@ -288,6 +288,9 @@ async function slicesOf(given, font) {
     return found;
 }
 
+// How many slices are named of which a font maps nothing.
+const MOST_NAMED = 8;
+
 async function runSlice(given, [path, folder, ...more]) {
     if (folder === undefined || !given.slices || more.length) {
         throw new Failed(2, 'slice takes FONT, FOLDER and --slices SLICES');
@@ -295,8 +298,9 @@ async function runSlice(given, [path, folder, ...more]) {
     const kind = kindOf(given), font = read(path);
     refusing(given, path, font, () => check(font));
     const every = await slicesOf(given, font), wanted = every.filter((one) => one.unicodes);
-    const said = every.filter((one) => !one.unicodes)
-        .map((one) => `slice ${one.name}: the font maps none of its characters`);
+    const lacking = every.filter((one) => !one.unicodes), more = lacking.length - MOST_NAMED;
+    const said = lacking.slice(0, MOST_NAMED).map((one) => `slice ${one.name}: the font maps none of its characters`);
+    said.push(...more > 0 ? [`other slices of which the font maps nothing: ${more}`] : []);
     if (given.strict && said.length) {
         throw new Failed(1, `nothing was written: ${said.join('; ')}`);
     }
