@@ -210,7 +210,7 @@ function runSubset(given, [font, out, ...words]) {
             hasGlyphs: isAll || Boolean(given.gids) };
         const paths = (given.text ?? []).filter((one) => one !== '-' && isFile(one)).map((path) =>
             `${shownName(path)} is a file: --text keeps the characters of its path, --text-file those in it`);
-        say([...emptyOf(given, texts, lists), ...lossesOf(shownName(font), data, kind, asked), ...paths]);
+        say([...emptyOf(given, texts, lists), ...paths, ...lossesOf(shownName(font), data, kind, asked)]);
     }
 }
 
