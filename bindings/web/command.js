@@ -298,9 +298,9 @@ async function runSlice(given, [path, folder, ...more]) {
     const kind = kindOf(given), font = read(path);
     refusing(given, path, font, () => check(font));
     const every = await slicesOf(given, font), wanted = every.filter((one) => one.unicodes);
-    const lacking = every.filter((one) => !one.unicodes), more = lacking.length - MOST_NAMED;
+    const lacking = every.filter((one) => !one.unicodes), unnamed = lacking.length - MOST_NAMED;
     const said = lacking.slice(0, MOST_NAMED).map((one) => `slice ${one.name}: the font maps none of its characters`);
-    said.push(...more > 0 ? [`other slices of which the font maps nothing: ${more}`] : []);
+    said.push(...unnamed > 0 ? [`other slices of which the font maps nothing: ${unnamed}`] : []);
     if (given.strict && said.length) {
         throw new Failed(1, `nothing was written: ${said.join('; ')}`);
     }
