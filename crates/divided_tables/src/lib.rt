@@ -5,9 +5,12 @@
 
 mod all_tables;
 mod glyph_variations;
+mod held_sequences;
 mod metrics;
 mod names;
 mod parted_table;
+mod sequences;
 
 pub use crate::all_tables::{MadeTables, OpenTables};
 pub use crate::parted_table::{OpenFrom, PartedTable, TablesBySlot};
+pub use crate::sequences::{CodeMap, table_of_font};
