@@ -401,7 +401,8 @@ def _add_prepare(commands: argparse._SubParsersAction[CommandParser]) -> None:
     command.add_argument("--names", choices=("keep", "least"), default="keep",
                          help="keep all names of the font, or in English alone those that systems need (keep)")
     command.add_argument("--kern", choices=("auto", "keep", "drop"), default="auto",
-                         help="keep the table kern: auto keeps it where GPOS has no kerning for a script (auto)")
+                         help="keep the table kern: auto keeps it where browsers take it and GPOS does not kern a script "
+                              "(auto)")
     command.add_argument("--force", action="store_true", help="write over another whole font")
     command.add_argument("--json", action="store_true", help="print OUT.json, and not what was dropped")
     command.set_defaults(run=_run_prepare)
