@@ -295,7 +295,7 @@ def _add_slice(commands: argparse._SubParsersAction[CommandParser]) -> None:
            full="write full cuts")
     _as_is(command)
     command.add_argument("--drop", metavar="TABLES", action="append",
-                         help="with --layout or --variable, cut fonts as if they lacked these layout tables, as "
+                         help="with --layout or --variable, cut fonts without these layout tables, as "
                               "GSUB,kern")
     command.add_argument("--rest", action="store_true",
                          help="write the characters that are left of the scripts of the slices, and of no script, as a "

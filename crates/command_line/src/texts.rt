@@ -102,7 +102,7 @@ pub(crate) const VARIABLE: &str =
     "Writes the variable cut: a layout one with the variations (fvar, gvar ..), so it stays variable";
 
 pub(crate) const DROP: &str =
-    "Cuts FONT as if it lacked these layout tables; only GSUB adds glyphs; may be repeated";
+    "Cuts FONT without these layout tables; only GSUB adds glyphs; may be repeated";
 
 pub(crate) const FORCE_SUBSET: &str =
     "Writes even to a name that ends in .woff2 or .woff, and over the font of which FONT is a cut";

@@ -84,22 +84,6 @@ fn reported_links(
     Ok(None)
 }
 
-// Cuts a font for the codes and the glyphs that are wanted, and reports on the cut.
-fn cut_and_report<'a, F: HeldFiles, I, O: Write + Copy + Drop>(
-    system: &System<'a, F, I, O>,
-    kind: Kind,
-    line: &Subset<'a>,
-    font: &Font<'_>,
-    wanted: &WantedCodes,
-    numbers: &[u16],
-    coverage: Coverage,
-) -> Result<Outcome, CommandError<'a>> {
-    let linked = reported_links(system.alloc, kind, line, font, wanted.all())?;
-    let size = send_cut(system, kind, line, font, wanted, numbers)?;
-    let text = coverage.with_cut(kind, linked, size)?;
-    Ok(Outcome::saying(true, text))
-}
-
 // Returns whether a text has a dot or a slash, and is the path of a file.
 fn is_path_of_file<F: HeldFiles>(files: &F, text: &str) -> bool {
     let looks_so = text.contains('.') || text.contains('/');
@@ -124,6 +108,38 @@ fn note_paths_as_texts<F: HeldFiles>(
     Ok(())
 }
 
+// Returns what is said of the options and files of a line that name nothing or likely something else.
+fn notes_of<F: HeldFiles, I, O>(
+    system: &System<'_, F, I, O>,
+    line: &Subset<'_>,
+    chosen: &Chosen,
+) -> Result<String, AllocError> {
+    let mut said = String::new(system.alloc);
+    if line.verbosity != Verbosity::Quiet {
+        said.push_str(chosen.said.as_str())?;
+        note_paths_as_texts(system.files, &mut said, line)?;
+    }
+    Ok(said)
+}
+
+// Cuts a font for the codes and the glyphs that are wanted, and reports on the cut.
+fn cut_and_report<'a, F: HeldFiles, I, O: Write + Copy + Drop>(
+    system: &System<'a, F, I, O>,
+    kind: Kind,
+    line: &Subset<'a>,
+    font: &Font<'_>,
+    wanted: &WantedCodes,
+    chosen: &Chosen,
+    coverage: Coverage,
+) -> Result<Outcome, CommandError<'a>> {
+    let mut text = notes_of(system, line, chosen)?;
+    let linked = reported_links(system.alloc, kind, line, font, wanted.all())?;
+    let size = send_cut(system, kind, line, font, wanted, &chosen.numbers)?;
+    let report = coverage.with_cut(kind, linked, size)?;
+    text.push_str(report.as_str())?;
+    Ok(Outcome::saying(true, text))
+}
+
 // Returns what is said of a cut without being asked.
 fn said_of_cut<F: HeldFiles, I, O>(
     system: &System<'_, F, I, O>,
@@ -145,10 +161,9 @@ fn said_of_cut<F: HeldFiles, I, O>(
         has_numbers: names_glyphs(line),
         says_more: line.verbosity == Verbosity::Verbose,
     };
-    let mut said = String::from_str(system.alloc, chosen.said.as_str())?;
+    let mut said = notes_of(system, line, chosen)?;
     let lost = losses(system.alloc, font, asked)?;
     said.push_str(lost.as_str())?;
-    note_paths_as_texts(system.files, &mut said, line)?;
     Ok(said)
 }
 
@@ -192,7 +207,7 @@ fn cut_counted<'a, F: HeldFiles, I, O: Write + Copy + Drop>(
     if !line.reports {
         return cut_and_say(system, kind, line, font, &wanted, chosen);
     }
-    cut_and_report(system, kind, line, font, &wanted, &chosen.numbers, coverage)
+    cut_and_report(system, kind, line, font, &wanted, chosen, coverage)
 }
 
 // Cuts a font, whose file this is, for the codes that are kept and for glyphs, as a line asks for it.
