@@ -42,15 +42,15 @@ filter-part keep (p ∷ ps) g = elim (cases_Bool (eqb p.glyph g)) as (λ _.
     both true e = ap (λ (qs : List Pair). p ∷ qs) e
     both false e = e
 
-part-among : (n : ℕ) (ps : List Pair) (g : ℕ) → AreAmong n ps → AreAmong n (part_of ps g)
+pub part-among : (n : ℕ) (ps : List Pair) (g : ℕ) → AreAmong n ps → AreAmong n (part_of ps g)
 unfolding part_of
 part-among n ps g r = rises_filter (IsPairAmong n) place_of (λ p. eqb p.glyph g) 0 ps r
 
-part-few : (ps : List Pair) (g : ℕ) → length (part_of ps g) ≤ length ps
+pub part-few : (ps : List Pair) (g : ℕ) → length (part_of ps g) ≤ length ps
 unfolding part_of
 part-few ps g = filter_few (λ p. eqb p.glyph g) ps
 
-part-none : (g : ℕ) → part_of [] g ≡ []
+pub part-none : (g : ℕ) → part_of [] g ≡ []
 unfolding part_of
 part-none g = refl
 
@@ -73,7 +73,7 @@ module _ (n : ℕ) (parts : ℕ → List ℕ) where
       sorts_merged (IsPairAmong n) 0 (pairs_at n parts g) (pairs_among n parts gs) (at-among g) (among-sorts gs)
 
   -- a test of glyphs
-  filter-among : (keep : ℕ → Bool) (fewer : ℕ → List ℕ)
+  pub filter-among : (keep : ℕ → Bool) (fewer : ℕ → List ℕ)
       → ((g : ℕ) → pairs_at n fewer g ≡ cond (keep g) (pairs_at n parts g) []) → (gs : List ℕ)
       → filter (λ p. keep p.glyph) (pairs_among n parts gs) ≡ pairs_among n fewer gs
   filter-among keep fewer e [] = refl

@@ -1,7 +1,7 @@
 -- How many entries there are at most.
 use Rattle.std.proofs.Common.{◌≡◌, ℕ, zero, suc, ◌+◌, ◌-◌, ◌<◌, ◌≤◌, Bool, true, false, cond, ◌&&◌, ◌||◌, ◌⊎◌, leb}
-use Rattle.std.proofs.Common.{List, [], ◌∷◌, ◌++◌, length, length-append, find, max}
-use Rattle.std.proofs.Common.{Option, Some, None, refl, sym, ap, subst, ◌∙◌, arith, inl, inr}
+use Rattle.std.proofs.Common.{List, [], ◌∷◌, length, length-append, find, max}
+use Rattle.std.proofs.Common.{Option, Some, None, refl, ap, subst, arith, inl, inr}
 use Rattle.std.specs.List.{cons_option, count_by, filter_map, flat_map, range_with_len, sum_by}
 use Rattle.std.specs.Option.{is_some, option_map}
 use Rattle.std.proofs.lemmas.Bool.{and_parts, cases_Bool, leb-true}

@@ -1,15 +1,15 @@
 -- What two tables say, code by code.
-use Rattle.std.proofs.Common.{◌≡◌, ℕ, zero, suc, ◌+◌, ◌-◌, ◌<◌, ◌≤◌, Bool, true, false, cond, List, [], ◌∷◌, ◌++◌}
-use Rattle.std.proofs.Common.{Option, Some, None, refl, sym, ap, subst, ◌∙◌, arith, inl, inr}
+use Rattle.std.proofs.Common.{◌≡◌, ℕ, zero, suc, ◌+◌, ◌-◌, ◌<◌, ◌≤◌, true, List, [], ◌∷◌, ◌++◌}
+use Rattle.std.proofs.Common.{Option, Some, None, refl, sym, ap, ◌∙◌, arith}
 use Rattle.std.specs.List.{cons_option, filter_map, flat_map, list_all, range_with_len}
-use Rattle.std.specs.Option.{is_some, option_map}
+use Rattle.std.specs.Option.{option_map}
 use Rattle.sfnt_bytes.specs.Number.{u32_at}
 use Rattle.sfnt_bytes.proofs.RangeLemmas.{range_with_len-end, range_with_len-step}
 use Rattle.codes.specs.declared.code_points.TheConstants.{CODES}
 use Rattle.variation_sequences.specs.Format14.{list_count, mapping_code, mapping_glyph, range_first, range_last}
 use Rattle.variation_sequences.specs.Format14.{selector_count}
 use Rattle.variation_sequences.specs.Inside.{IsFirstVariant, IsNextCode, NoVariant}
-use Rattle.variation_sequences.specs.Spans.{are_ascending, is_above, member_with}
+use Rattle.variation_sequences.specs.Spans.{are_ascending, is_above}
 use Rattle.variation_sequences.specs.Sequences.{entries_from_record, entries_in, entries_of_record, variant_in}
 use Rattle.variation_sequences.specs.Strict.{mapping_with, range_with}
 use Rattle.variation_sequences.specs.declared.variant.Entry.{Entry}

@@ -1,27 +1,27 @@
 -- What is found is what is listed.
-use Rattle.std.proofs.Common.{◌≡◌, ℕ, zero, suc, ◌+◌, ◌-◌, ◌<◌, ◌≤◌, Bool, true, false, cond, eqb, ◌&&◌, ◌⊎◌, List, []}
-use Rattle.std.proofs.Common.{◌∷◌, ◌++◌, find, Option, Some, None, MatchOption, refl, sym, ap, subst, ◌∙◌, arith, inl}
+use Rattle.std.proofs.Common.{◌≡◌, ℕ, zero, suc, ◌+◌, ◌-◌, ◌<◌, ◌≤◌, Bool, true, false, cond, eqb, ◌⊎◌, List}
+use Rattle.std.proofs.Common.{find, Option, Some, None, MatchOption, refl, sym, ap, subst, ◌∙◌, arith, inl}
 use Rattle.std.proofs.Common.{inr}
 use Rattle.std.specs.List.{cons_option, filter_map, flat_map, range_with_len}
 use Rattle.std.specs.Option.{option_and_then, option_map, option_or}
-use Rattle.std.proofs.lemmas.Bool.{and_left, and_right, cases_Bool, cases_eq, cases_lt, eq-eqb, leb-true, and_parts}
+use Rattle.std.proofs.lemmas.Bool.{and_left, and_right, cases_Bool, cases_eq, cases_lt}
 use Rattle.std.proofs.lemmas.Bool.{ne_eqb}
 use Rattle.std.proofs.lemmas.Bool.Decides.{nat_tests}
 use Rattle.std.proofs.lemmas.List.Folds.{find-append}
 use Rattle.codes.specs.declared.code_points.TheConstants.{CODES}
-use Rattle.variation_sequences.specs.Format14.{default_ranges, list_count, mapping_code, mapping_glyph}
-use Rattle.variation_sequences.specs.Format14.{mappings_of, range_first, range_last, selector_at}
+use Rattle.variation_sequences.specs.Format14.{default_ranges}
+use Rattle.variation_sequences.specs.Format14.{mappings_of, selector_at}
 use Rattle.variation_sequences.specs.Format14.{selector_count}
 use Rattle.variation_sequences.specs.Inside.{IsSelectorRecord}
 use Rattle.variation_sequences.specs.Spans.{are_ascending, has_code, member_with}
 use Rattle.variation_sequences.specs.Sequences.{entries_from_record, entries_in, entries_of, entries_of_record, is_of}
 use Rattle.variation_sequences.specs.Sequences.{record_with, variant_in, variant_of, variant_under}
-use Rattle.variation_sequences.specs.Strict.{is_strict, mapping_with, range_with}
+use Rattle.variation_sequences.specs.Strict.{is_strict}
 use Rattle.variation_sequences.specs.declared.variant.Entry.{Entry}
 use Rattle.variation_sequences.specs.declared.variant.Variant.{Variant}
-use Rattle.variation_sequences.specs.declared.variant.Variant.TheVariants.{Glyph, Unchanged}
+use Rattle.variation_sequences.specs.declared.variant.Variant.TheVariants.{Unchanged}
 use Rattle.variation_sequences.proofs.SpanLemmas.{begins_after, stands}
-use Rattle.variation_sequences.proofs.PlaceLemmas.{find_no_place, find_place}
+use Rattle.variation_sequences.proofs.PlaceLemmas.{find_no_place}
 use Rattle.variation_sequences.proofs.StrictLemmas.{strict_record, strict_selectors}
 
 abbrev entry : ℕ → ℕ → Variant → Entry

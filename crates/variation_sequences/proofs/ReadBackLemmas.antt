@@ -1,7 +1,7 @@
 -- A subtable that is written is read back.
-use Rattle.std.proofs.Common.{◌≡◌, ℕ, zero, suc, ◌+◌, ◌-◌, ◌*◌, ◌<◌, ◌≤◌, Bool, true, false, cond, eqb, leb, ltb, not}
+use Rattle.std.proofs.Common.{◌≡◌, ℕ, zero, suc, ◌+◌, ◌-◌, ◌*◌, ◌<◌, ◌≤◌, Bool, true, eqb, leb, ltb, not}
 use Rattle.std.proofs.Common.{◌&&◌}
-use Rattle.std.proofs.Common.{◌||◌, ◌⊎◌, List, [], ◌∷◌, ◌++◌, get_or, length, map, max, take, find, Option, Some, None}
+use Rattle.std.proofs.Common.{◌||◌, ◌⊎◌, List, [], ◌∷◌, ◌++◌, get_or, length, map, take, find, Option, Some, None}
 use Rattle.std.proofs.Common.{refl, ap, subst}
 use Rattle.std.proofs.Common.{◌∙◌, sym, arith, inl, inr, flat_map, length-append}
 use Rattle.std.specs.List.{list_all, range_with_len, sum_by}
@@ -11,14 +11,13 @@ use Rattle.std.proofs.lemmas.Bool.Decides.{nat_tests}
 use Rattle.std.proofs.lemmas.List.{map-append, take_at}
 use Rattle.std.proofs.lemmas.List.Sums.{sum_by-cons}
 use Rattle.sfnt_bytes.specs.Number.{u16_at, u32_at}
-use Rattle.codes.specs.Order.{IsFirstReaching}
 use Rattle.codes.specs.declared.code_points.TheConstants.{CODES}
 use Rattle.variation_sequences.specs.Format14.{list_count, mapping_code, mapping_glyph, mappings_of}
 use Rattle.variation_sequences.specs.Format14.{range_first, range_last}
 use Rattle.variation_sequences.specs.Encoding.{is_whole, whole_subtable}
 use Rattle.variation_sequences.specs.Format14.{default_ranges, range_more, selector_at, selector_count}
 use Rattle.variation_sequences.specs.Laws.{SubtableIsReadBack}
-use Rattle.variation_sequences.specs.Inside.{IsNextCode, NoVariant}
+use Rattle.variation_sequences.specs.Inside.{IsNextCode}
 use Rattle.variation_sequences.specs.Spans.{are_ascending, has_code, is_above, member_with}
 use Rattle.variation_sequences.specs.Sequences.{entries_from_record, entries_in, entries_of, entries_of_record}
 use Rattle.variation_sequences.specs.Strict.{codes_in, entries_under, entry_count, has_lists, has_ordered_lists}

@@ -1,6 +1,6 @@
 -- Numbers that are written as bytes are read back, also after other bytes; rows of one size, and their places.
-use Rattle.std.proofs.Common.{◌≡◌, ℕ, zero, suc, ◌+◌, ◌*◌, ◌/◌, ◌%◌, ◌<◌, ◌≤◌, List, [], ◌∷◌, ◌++◌, get_or, drop}
-use Rattle.std.proofs.Common.{length, refl, ap, ◌∙◌, sym, arith, flat_map, length-append, append_assoc}
+use Rattle.std.proofs.Common.{◌≡◌, ℕ, zero, suc, ◌+◌, ◌*◌, ◌<◌, List, [], ◌∷◌, ◌++◌, get_or, drop}
+use Rattle.std.proofs.Common.{length, ap, ◌∙◌, arith, flat_map, length-append, append_assoc}
 use Rattle.std.proofs.lemmas.List.{get_or-drop}
 use Rattle.std.proofs.Math.Seq.{drop-append-add}
 use Rattle.sfnt_bytes.specs.Number.{number, u16_at, u32_at}

@@ -1,17 +1,17 @@
 -- What stands in a subtable that is written.
-use Rattle.std.proofs.Common.{◌≡◌, ℕ, zero, suc, ◌+◌, ◌*◌, ◌/◌, ◌%◌, ◌<◌, ◌≤◌, eqb, List, [], ◌∷◌, ◌++◌, get_or, drop}
+use Rattle.std.proofs.Common.{◌≡◌, ℕ, zero, suc, ◌+◌, ◌*◌, ◌<◌, ◌≤◌, eqb, List, [], ◌∷◌, ◌++◌, get_or, drop}
 use Rattle.std.proofs.Common.{length, refl, ap, subst, ◌∙◌, sym, arith, flat_map, length-append, append_assoc}
 use Rattle.std.proofs.lemmas.Bool.{cond-false, ne_eqb}
 use Rattle.std.proofs.lemmas.List.{drop-drop}
 use Rattle.std.proofs.Math.Seq.{drop-append_seam}
-use Rattle.sfnt_bytes.specs.Number.{number, u16_at, u32_at}
+use Rattle.sfnt_bytes.specs.Number.{u16_at, u32_at}
 use Rattle.variation_sequences.specs.Format14.{default_ranges, list_at, list_count, mapping_code, mapping_glyph}
 use Rattle.variation_sequences.specs.Format14.{mappings_of, selector_at, selector_count, u24_at}
-use Rattle.variation_sequences.specs.Written.{bytes_of_u16, bytes_of_u24, bytes_of_u32, grouped, mapping_bytes}
+use Rattle.variation_sequences.specs.Written.{bytes_of_u16, bytes_of_u32, grouped, mapping_bytes}
 use Rattle.variation_sequences.specs.Written.{mappings_bytes, placed, record_bytes, selector_of, subtable_bytes}
 use Rattle.variation_sequences.specs.Written.{subtable_size, table_size, tables_at}
 use Rattle.variation_sequences.specs.declared.variant.Pair.{Pair}
-use Rattle.variation_sequences.proofs.ReadLemmas.{drop-rows, length-rows, u16_at-drop, u16_read, u24_at-drop, u24_read}
+use Rattle.variation_sequences.proofs.ReadLemmas.{drop-rows, length-rows, u16_at-drop, u24_at-drop, u24_read}
 use Rattle.variation_sequences.proofs.ReadLemmas.{u32_at-drop, u32_read}
 
 abbrev pub no_pair : Pair

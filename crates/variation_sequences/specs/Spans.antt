@@ -1,6 +1,6 @@
 -- Members of a list in order of their codes, by their places (OpenType 1.9, cmap, Format 14: Unicode variation
 -- sequences).
-use Rattle.std.specs.Prelude.{◌≡◌, ℕ, ◌-◌, ◌<◌, ◌≤◌, nat_eq, nat_le, nat_lt, Bool, ◌&&◌, ◌||◌, find, None, Option, Some}
+use Rattle.std.specs.Prelude.{ℕ, ◌-◌, nat_eq, nat_le, nat_lt, Bool, ◌&&◌, ◌||◌, find, Option}
 use Rattle.std.specs.List.{list_all, range_with_len}
 use Rattle.codes.specs.declared.code_points.TheConstants.{CODES}
 

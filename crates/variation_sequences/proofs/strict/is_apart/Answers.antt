@@ -1,6 +1,6 @@
 use Rattle.std.proofs.Common.{not, arith, ◌∙◌}
 use Rattle.std.specs.Option.{is_some}
-use Rattle.variation_sequences.specs.Format14.{list_count, mapping_code}
+use Rattle.variation_sequences.specs.Format14.{mapping_code}
 use Rattle.variation_sequences.specs.Strict.{range_with}
 use Rattle.variation_sequences.proofs.PlaceLemmas.{all_step}
 use Rattle.variation_sequences.proofs.StrictLemmas.{apart_here}

@@ -1,5 +1,4 @@
 use Rattle.std.proofs.Common.{◌≡◌, ◌-◌, ◌++◌}
-use Rattle.variation_sequences.specs.Format14.{selector_count}
 use Rattle.variation_sequences.specs.Sequences.{entries_from_record}
 use Rattle.variation_sequences.proofs.entries.EntriesIterator.next.Given as goal
 

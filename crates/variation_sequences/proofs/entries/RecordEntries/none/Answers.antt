@@ -1,4 +1,4 @@
-use Rattle.std.proofs.Common.{arith, ◌∙◌}
+use Rattle.std.proofs.Common.{arith}
 use Rattle.variation_sequences.proofs.EntryLemmas.{entries_past, no_list_ascends, no_list_count}
 use Rattle.variation_sequences.proofs.entries.RecordEntries.none.Goals as goal
 
