@@ -13,7 +13,7 @@ import fontcut
 from fontcut_output import CommandParser, Progress, print_line, read, reason, tell_of_others, write
 
 from . import texts, use
-from .common import DISPLAYS, Missing, MissingProgram, Refused, UsageError, need, part
+from .common import DISPLAYS, SHAPED, Missing, MissingProgram, Refused, UsageError, need, part
 from .inputs import dropped_tables
 from .presets import PARTS, SIZES, languages, web
 from .replaced import check_name, check_read, check_unpacked, check_whole, check_written
@@ -227,7 +227,7 @@ def _run_decode(given: argparse.Namespace) -> None:
     data = read(given.file)
     try:
         whole = part("woff").unpacked(data)
-        font = fontcut.cut(whole, fontcut.codes(whole), kind=given.kind) if given.kind else whole
+        font = _cut_anew(whole, given.kind) if given.kind else whole
         name = _name_of(font)
     except (fontcut.Refused, Refused) as refusal:
         raise Refused(f"{given.file}: {refusal}") from refusal
@@ -235,6 +235,11 @@ def _run_decode(given: argparse.Namespace) -> None:
         check_unpacked(given.out, [whole, font])
     write(given.out, font)
     print_line(f"{given.out}: {_joins(name, data[:4] == b'wOF2')}")
+
+
+def _cut_anew(font: bytes, kind: str) -> bytes:
+    """The cut of a font of a kind for all its characters, and for all its glyphs where it keeps variation sequences."""
+    return fontcut.cut(font, fontcut.codes(font), kind=kind, gids="all" if kind in SHAPED else None)
 
 
 def _name_of(font: bytes) -> Optional[str]:
