@@ -77,7 +77,7 @@ const SELECTOR = new RegExp(`^[${SELECTORS}]$`, 'u'), SEQUENCE = new RegExp(`[^$
 export const isSelector = (code) => code <= 0x10FFFF && SELECTOR.test(String.fromCodePoint(code));
 
 /** The variation sequences of a text: each is a character and the selector that follows it. */
-export const sequencesIn = (text) => [...new Set(text.match(SEQUENCE))];
+export const sequencesIn = (text) => [...new Set(String(text).match(SEQUENCE))];
 
 /** The code points of ranges. */
 export const codesIn = (ranges) => ranges.flatMap(([first, last]) =>
