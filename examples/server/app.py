@@ -148,7 +148,8 @@ class Application:
         if font.refusal:
             raise Answer("502 Bad Gateway", f"the font is refused: {font.refusal}")
         gids = drawn(font, wanted)
-        tag = '"' + hashlib.sha256(f"{font.digest} {wanted.kind} {wanted.ranges} {gids}".encode()).hexdigest() + '"'
+        named = " ".join(map(str, [font.digest, wanted.kind, wanted.ranges, *gids]))
+        tag = '"' + hashlib.sha256(named.encode()).hexdigest() + '"'
         headers = [FOREVER, ("Content-Type", "font/ttf"), ("Access-Control-Allow-Origin", "*"), *dictionaries.VARY]
         if tag in environ.get("HTTP_IF_NONE_MATCH", ""):
             return "304 Not Modified", [("ETag", tag), *headers], None
