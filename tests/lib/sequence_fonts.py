@@ -8,8 +8,9 @@ from font_reading import sequences, table
 
 # Of Debian's package fonts-hanazono, which has each sequence as a mapping of its own.
 LARGE = f"{HANAZONO}/HanaMinA.ttf"
-# A text with a sequence, for which the font has another glyph than for the character alone, and the sequence.
-TEXT, PAIR = "\u845b\U000e0100\u57ce\u5e02", (0x845B, 0xE0100)
+# A text with a sequence, for which the font has another glyph than for the character alone, and the selector and the
+# character of the sequence.
+TEXT, PAIR = "\u845b\U000e0100\u57ce\u5e02", (0xE0100, 0x845B)
 SMALLER = """
 import sys
 from fontTools.subset import Subsetter
@@ -20,6 +21,7 @@ subsetter.subset(font)
 font.save(sys.argv[2])
 """
 
+# Glyphs by selectors and characters.
 Sequences = Mapping[tuple[int, int], Optional[int]]
 
 
@@ -35,8 +37,8 @@ def is_made_small(path: str) -> bool:
 
 def sequences_of(path: str) -> Sequences:
     """The sequences of the font in a file, with their glyphs."""
-    found: Sequences = sequences(table(read(path), b"cmap"))
-    return found
+    found = sequences(table(read(path), b"cmap"))
+    return {(selector, code): glyph for (code, selector), glyph in found.items()}
 
 
 def kept_of(path: str, codes: str, *pairs: tuple[int, int]) -> Sequences:
