@@ -16,7 +16,6 @@ _SELECTOR, _PAIR = re.compile(f"[{_SELECTORS}]"), re.compile(f"([^{_SELECTORS}])
 _OF_EMOJI = 0xFE0E, 0xFE0F
 # How many sequences are named.
 _NAMED = 5
-
 # A word of a list that names a sequence, as the program has it.
 _WORD = re.compile(r"(?<![^\s,;])U\+([0-9A-F]{1,6})\+([0-9A-F]{1,6})(?![^\s,;])", re.I)
 
@@ -68,11 +67,11 @@ def _drawn_otherwise(font: bytes, wanted: Sequences) -> Tuple[Sequences, Sequenc
         opened = part("woff").TTFont(io.BytesIO(font), lazy=True)
         tables = [table.uvsDict for table in opened["cmap"].tables if table.format == 14]
         rows = [(code, selector, glyph) for table in tables for selector, some in table.items() for code, glyph in some]
-        plain = opened.getBestCmap() or {}
+        mapped = opened.getBestCmap() or {}
     except malformed:
         return set(), set()
     every = {(code, selector): glyph for code, selector, glyph in rows if (code, selector) in wanted}
-    return set(every), {one for one, glyph in every.items() if glyph not in (None, plain.get(one[0]))}
+    return set(every), {one for one, glyph in every.items() if glyph not in (None, mapped.get(one[0]))}
 
 
 def _listed(sequences: Iterable[Tuple[int, int]]) -> str:
