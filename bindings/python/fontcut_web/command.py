@@ -82,8 +82,7 @@ of its characters. A character is only in the first slice that names it; a slice
 character is not written.
 
 SLICES is a preset, or a file with a name and ranges in each line, as fontcut slice reads it, and with variation
-sequences, as U+845B+E0100, for layout and variable cuts. The option may be repeated, and then adds slices. The presets
-are
+sequences, as U+845B+E0100, for layout and variable cuts. Several of these options add up. The presets are
 {_PRESETS}
   equal:COUNT        COUNT slices of equal size of what is left; at most {MOST_EQUAL}
   pages:COUNT        the same, of the characters by how often they stand in pages, and with the variation sequences of
