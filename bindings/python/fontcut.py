@@ -93,6 +93,8 @@ _LAST_CODE, _MOST_GLYPHS = 0x10FFFF, 0xFFFF
 _KINDS = {"full": 0, "lean": 1, "layout": 2, "variable": 3}
 # The kinds whose cuts keep GSUB, so that their text is shaped.
 _SHAPED = (_KINDS["layout"], _KINDS["variable"])
+# The selectors of variation sequences.
+_SELECTORS = re.compile("[\u180b-\u180d\u180f\ufe00-\ufe0f\U000e0100-\U000e01ef]")
 
 
 class Range(NamedTuple):
@@ -462,8 +464,9 @@ def _gids(font: Union[Bytes, Font], given: Optional[Gids]) -> List[int]:
 
 def _wanted_gids(font: Union[Bytes, Font], wanted: Codes, kind: int, gids: Sequence[int]) -> List[int]:
     """The glyph numbers that are asked for of a cut of a kind. A text brings those of its variation sequences, if the
-    cut keeps sequences."""
-    return [*gids, *(variants(font, wanted) if kind in _SHAPED and isinstance(wanted, str) else ())]
+    cut keeps sequences. For one that has none the font is not tested twice."""
+    is_varied = kind in _SHAPED and isinstance(wanted, str) and _SELECTORS.search(wanted)
+    return [*gids, *(variants(font, cast(str, wanted)) if is_varied else ())]
 
 
 def _gids_of_sets(font: Union[Bytes, Font], given: Optional[Iterable[Optional[Gids]]], count: int) -> List[List[int]]:

@@ -706,11 +706,28 @@ class Asking(unittest.TestCase):
                     self.assertEqual(fontcut.slices(font, [text], kind=kind), [made])
                 self.assertEqual(fontcut.cut_size(font, text, kind=kind), len(made))
             self.assertEqual(fontcut.closure(font, text), fontcut.closure(font, map(ord, fontcut.needed(text)), glyphs))
+        self.assert_sequences_are_kept(font)
         self.assertEqual(fontcut.variants(BASE6, "A\ufe00"), [])
         with self.assertRaisesRegex(ValueError, "item 1 is the lone surrogate"):
             fontcut.variants(font, "A\ud800")
         with self.assertRaises(fontcut.Refused):
             fontcut.variants(b"", "A")
+
+    def assert_sequences_are_kept(self, font: bytes) -> None:
+        """Shaped cuts for texts have the sequences of the glyphs that they keep, and their join has those of all."""
+        known, plain = {(0x41, 0xFE00): 1, (0x42, 0xE0100): 5}, {"A": 1}
+        kinds: List[Tuple[str, bool]] = [("lean", False), ("layout", True), ("variable", True)]
+        for kind, has in kinds:
+            cuts = [fontcut.cut(font, text, kind=kind, exactly=True) for text, _ in VARIANTS]
+            for (text, glyphs), made in zip(VARIANTS, cuts):
+                kept = {*glyphs, *(plain[letter] for letter in text if letter in plain)} if has else set()
+                wanted = {pair: glyph for pair, glyph in known.items() if glyph in kept}
+                self.assertEqual(font_reading.sequences(font_reading.table(made, b"cmap")), wanted)
+                self.assertEqual(fontcut.variants(made, "A\ufe00B\U000e0100"), sorted(wanted.values()))
+            every = fontcut.cut(font, {ord(letter) for text, _ in VARIANTS for letter in text}, kind=kind,
+                                gids=[1, 5] if has else None)
+            self.assertEqual(fontcut.join(cuts, kind=kind), every)
+            self.assertTrue(fontcut.belongs(every, font, kind=kind))
 
     @unittest.skipUnless(os.path.exists(DEJAVU), "Debian's package fonts-dejavu-core is not installed")
     def test_what_a_cut_lacks_or_drops(self) -> None:

@@ -5,11 +5,11 @@ import { chmodSync, closeSync, existsSync, lstatSync, mkdirSync, openSync, readF
     renameSync, rmSync, statSync, writeFileSync, writeSync } from 'node:fs';
 import { basename, dirname, join as pathOf, resolve } from 'node:path';
 import { parseArgs } from 'node:util';
-import { belongs, check, codes, cuts, cutForm, FontcutError, glyphs, init, initTexts, join, metrics, needed, ranges,
-    subset, variants, version } from './fontcut.js';
+import { belongs, check, codes, cuts, cutForm, Font, FontcutError, glyphs, init, initTexts, join, metrics, needed,
+    ranges, subset, variants, version } from './fontcut.js';
 import { linesOfJoin } from './joined.js';
-import { KINDS, LAYOUT_TABLES, NO_GLYPH, NO_MEMORY, SHAPED, charactersOf, codesIn, kindWhere, rangeWord, shared }
-    from './kinds.js';
+import { KINDS, LAYOUT_TABLES, NO_GLYPH, NO_MEMORY, SHAPED, charactersOf, codesIn, isSelector, kindWhere, rangeWord,
+    shared } from './kinds.js';
 import { formatOf, lossesOf, recordsOf } from './losses.js';
 import { slices } from './slices.js';
 import { woff2 } from './woff2.js';
@@ -37,8 +37,8 @@ written.
 const FLAG = { type: 'boolean' }, LIST = { type: 'string', multiple: true };
 const KIND_FLAGS = { lean: FLAG, layout: FLAG, variable: FLAG };
 // Options of the program that no command has here.
-const OF_PROGRAM = ['verbose', 'complete', 'exclude', 'exclude-file', 'gids-file', 'report', 'strict', 'drop', 'sequences',
-    'help'];
+const OF_PROGRAM = ['verbose', 'complete', 'exclude', 'exclude-file', 'gids-file', 'report', 'strict', 'drop',
+    'sequences', 'help'];
 const COMMANDS = {
     subset: {
         run: runSubset, options: {
@@ -159,19 +159,31 @@ function codesOfTexts(texts, brings) {
 // A word of a list for a variation sequence, a character and its selector.
 const SEQUENCE = /(?<![^\s,;])U\+([0-9A-F]{1,6})\+([0-9A-F]{1,6})(?![^\s,;#])/gi;
 
-// The sequence of a word, as a text, or undefined where it names none.
-function sequenceOf(code, selector) {
-    const [first, second] = [code, selector].map((one) => Number.parseInt(one, 16));
-    const isOne = first <= 0x10FFFF && second <= 0x10FFFF
-        && /^[\u180B-\u180D\u180F\uFE00-\uFE0F\u{E0100}-\u{E01EF}]$/u.test(String.fromCodePoint(second));
-    return isOne ? String.fromCodePoint(first, second) : undefined;
+// The sequences of a list, as texts, and its ranges, among which their characters are. A word of no sequence is bad.
+function namedBy(list) {
+    const sequences = [];
+    const plain = list.replace(/#[^\n]*/g, '').replace(SEQUENCE, (word, ...named) => {
+        const [code, selector] = named.slice(0, 2).map((one) => Number.parseInt(one, 16));
+        if (code > 0x10FFFF || !isSelector(selector)) {
+            return word;
+        }
+        // A surrogate is no character of a text.
+        sequences.push(...code >> 11 === 0x1B ? [] : [String.fromCodePoint(code, selector)]);
+        return `U+${named[0]}`;
+    });
+    return { ranges: ranges(plain), sequences };
 }
 
-// The sequences of a list, and its ranges, among which their characters are.
-function namedBy(list) {
-    const named = [...list.replace(/#[^\n]*/g, '').matchAll(SEQUENCE)];
-    const plain = list.replace(SEQUENCE, (word, code, selector) => sequenceOf(code, selector) ? `U+${code}` : word);
-    return { ranges: ranges(plain), sequences: named.map(([, ...codes]) => sequenceOf(...codes)) };
+// The glyphs of sequences and of those of texts, each by itself, in cuts that keep sequences.
+function drawnIn(font, kind, texts, sequences) {
+    const all = SHAPED.includes(kind) ? [...texts, ...sequences.length ? [sequences.join('')] : []] : [];
+    return all.flatMap((one) => [...variants(font, one)]);
+}
+
+// Those of some sequences that a font lacks.
+function lackingOf(data, sequences) {
+    const font = sequences.length ? new Font(data) : undefined;
+    return [...new Set(sequences)].filter((one) => !variants(font, one).length);
 }
 
 // The lists of codes of a line, each with its ranges, its sequences and with what names it.
@@ -223,15 +235,14 @@ function runSubset(given, [font, out, ...words]) {
     } else {
         keepItself(given, out, font, data);
     }
-    const isShaped = SHAPED.includes(kind), sequences = isShaped ? lists.flatMap((one) => one.sequences) : [];
-    const drawn = () => isShaped && !isAll
-        ? [...texts.map((one) => one.text), ...sequences].flatMap((one) => [...variants(data, one)]) : [];
+    const sequences = SHAPED.includes(kind) ? lists.flatMap((one) => one.sequences) : [];
+    const drawn = () => drawnIn(data, kind, texts.map((one) => one.text), sequences);
     writeFont(out, refusing(given, font, data, () => cutOf(data,
         { unicodes, gids: isAll ? gids : [...gids, ...drawn()], kind, layoutClosure: !given['no-layout-closure'] })));
     if (!given.quiet) {
         const asked = { wanted: pairsOf(unicodes), named: pairsOf([...own, ...listed]), texts: pairsOf(own),
             hasGlyphs: isAll || Boolean(given.gids),
-            lacking: [...new Set(sequences)].filter((one) => !variants(data, one).length) };
+            lacking: lackingOf(data, sequences) };
         const paths = (given.text ?? []).filter((one) => one !== '-' && isFile(one)).map((path) =>
             `${shownName(path)} is a file: --text keeps the characters of its path, --text-file those in it`);
         say([...emptyOf(given, texts, lists), ...paths, ...lossesOf(shownName(font), data, kind, asked)]);
@@ -276,7 +287,8 @@ function refusing(given, path, data, work) {
 
 const writeFont = (out, data) => write(out, /\.woff2$/i.test(out) ? woff2(data) : data);
 
-// The slices of a file: in each line a name and ranges. Each has the ranges of characters that the font maps.
+// The slices of a file: in each line a name and ranges, and sequences. Each has the ranges of characters that the font
+// maps.
 function slicesOfFile(path, font) {
     const mapped = codes(font), lines = text(read(path), path).replace(/^\uFEFF/, '').split('\n');
     return lines.flatMap((line, i) => {
@@ -284,8 +296,9 @@ function slicesOfFile(path, font) {
         if (name && !/^[A-Za-z0-9][A-Za-z0-9._-]*$/.test(name)) {
             throw new Failed(2, `${path}: line ${i + 1}: bad name ${name.slice(0, 40)}`);
         }
-        const unicodes = name ? shared(mapped, ranges(list)).map((range) => rangeWord(range, 'U+')).join(', ') : '';
-        return name ? [{ name, unicodes }] : [];
+        const { ranges: listed, sequences } = namedBy(name ? list : '');
+        const unicodes = shared(mapped, listed).map((range) => rangeWord(range, 'U+')).join(', ');
+        return name ? [{ name, unicodes, sequences }] : [];
     });
 }
 
@@ -335,7 +348,11 @@ async function runSlice(given, [path, folder, ...more]) {
             throw new Failed(2, `${out} is a file already, and no cut: --force replaces it`);
         }
     }
-    const made = refusing(given, path, font, () => cuts(font, wanted, { kind, quiet: true }));
+    const made = refusing(given, path, font, () => {
+        const sets = wanted.map(({ unicodes, sequences = [] }) =>
+            ({ unicodes, gids: drawnIn(font, kind, [], sequences) }));
+        return cuts(font, sets, { kind, quiet: true });
+    });
     wanted.forEach((one, i) => {
         write(outs[i], made[i]);
         const packed = outs[i].replace(/ttf$/, 'woff2');

@@ -13,7 +13,7 @@
 // Each call copies what it reads into a module's memory, and frees all that it took when it returns or throws.
 
 import { DIFFERENCES, FontcutError, KINDS, NOT_A_CUT, NO_GLYPH, NO_MEMORY, SHAPED, SMALL_ROOM, charactersOf, kindWhere,
-    merged, pairsIn, rangeWord } from './kinds.js';
+    merged, pairsIn, rangeWord, sequencesIn } from './kinds.js';
 import { Areas, Module, bytesOf, tagOf } from './module.js';
 import { initTexts, needed, ranges, rangesNeeded, texts } from './texts.js';
 
@@ -134,8 +134,10 @@ function gidsOf(font, { gids = [] }) {
 // The flags of cuts of a font, which keep what GSUB may put if nothing else is said.
 const flagsOf = (font, { layoutClosure = true } = {}) => flagOf(font) | (layoutClosure ? CLOSES : 0);
 
-// The glyphs of the variation sequences of a text, in cuts that keep sequences.
-const variantsFor = (font, text, kind) => text && WITH_LINKS.includes(kind) ? Array.from(variants(font, text)) : [];
+// The glyphs of the variation sequences of a text, in cuts that keep sequences. For a text without any the font is not
+// tested twice.
+const variantsFor = (font, text, kind) =>
+    WITH_LINKS.includes(kind) && sequencesIn(text ?? '').length ? Array.from(variants(font, text)) : [];
 
 // What is wanted of a font, as the ranges and the glyphs of a request.
 function wantedOf(font, wanted, { kind, exactly }) {

@@ -6,7 +6,8 @@
 //     createServer(listener(handle)).listen(8000);
 //
 //     GET /Naskh.ttf?unicodes=U+20-7E,U+4??        the cut of that font for these code points
-//     GET /Naskh.ttf?text=Hello                    for these characters
+//     GET /Naskh.ttf?text=Hello                    for these characters, and in layout and variable cuts for the glyphs
+//                                                  of their variation sequences
 //     GET /Naskh.ttf?unicodes=20-7E&kind=lean      the lean cut, with kind=layout or kind=variable the cut of that kind
 //
 // examples/server answers the same. The bytes of the font, the kind and the set determine an answer, so its ETag is

@@ -23,7 +23,17 @@ import fontcut
 LONGEST_QUERY = 8000
 FOREVER = ("Cache-Control", "public, max-age=31536000, immutable")
 KINDS = ("full", "lean", "layout", "variable")
+# Those of which the text is shaped: it needs more characters than its own, and glyphs of its variation sequences.
+SHAPED = ("layout", "variable")
 Range = Tuple[int, int]
+
+
+class Wanted(NamedTuple):
+    """What a query asks for: code points, texts, and the kind of the cut."""
+
+    ranges: List[Range]
+    texts: List[str]
+    kind: str
 
 
 class Font(NamedTuple):
@@ -69,8 +79,8 @@ def kind_of(asked: Dict[str, List[str]]) -> str:
     return kind
 
 
-def wanted_by(query: str) -> Tuple[List[Range], str]:
-    """The set that a query asks for, and of which kind the cut is to be."""
+def wanted_by(query: str) -> Wanted:
+    """What a query asks for."""
     if len(query) > LONGEST_QUERY:
         raise Answer("414 URI Too Long", f"a query has {LONGEST_QUERY} characters at most")
     try:
@@ -83,20 +93,25 @@ def wanted_by(query: str) -> Tuple[List[Range], str]:
         raise Answer("400 Bad Request", "a query has unicodes or text, and may have kind")
     kind = kind_of(asked)
     lists = [re.sub(r"(?<![^\s,;:-])([Uu]) (?=[0-9A-Fa-f?])", r"\1+", value) for value in asked.get("unicodes", ())]
-    texts = asked.get("text", ())
-    # Cuts of some kinds are there to be shaped, and a shaper takes more characters than those of the text.
-    letters = set("".join(map(fontcut.needed, texts) if kind in ("layout", "variable") else texts))
+    texts = asked.get("text", [])
+    letters = set("".join(map(fontcut.needed, texts) if kind in SHAPED else texts))
     try:
         ranges = fontcut.ranges([*lists, *(f"U+{ord(letter):X}" for letter in letters)])
     except ValueError as error:
         raise Answer("400 Bad Request", str(error)) from None
-    return [(first, last) for first, last in ranges], kind
+    return Wanted([(first, last) for first, last in ranges], texts, kind)
 
 
-def made(font: Font, wanted: List[Range], kind: str) -> bytes:
+def drawn(font: Font, wanted: Wanted) -> List[int]:
+    """The glyphs of the variation sequences of texts."""
+    texts = wanted.texts if wanted.kind in SHAPED else []
+    return sorted({glyph for text in texts for glyph in fontcut.variants(font.data, text)})
+
+
+def made(font: Font, wanted: Wanted, gids: List[int]) -> bytes:
     """The cut."""
     try:
-        return fontcut.cut(font.data, wanted, kind=kind)
+        return fontcut.cut(font.data, wanted.ranges, kind=wanted.kind, gids=gids or None)
     except fontcut.Refused as refused:
         raise Answer("502 Bad Gateway", f"the cut is refused: {refused.text}") from None
     except MemoryError:
@@ -129,17 +144,20 @@ class Application:
         font = self.fonts.get(name)
         if font is None:
             raise Answer("404 Not Found", "there is no such font")
-        wanted, kind = wanted_by(environ.get("QUERY_STRING", ""))
+        wanted = wanted_by(environ.get("QUERY_STRING", ""))
         if font.refusal:
             raise Answer("502 Bad Gateway", f"the font is refused: {font.refusal}")
-        tag = '"' + hashlib.sha256(f"{font.digest} {kind} {wanted}".encode()).hexdigest() + '"'
+        gids = drawn(font, wanted)
+        named = " ".join(map(str, [font.digest, wanted.kind, wanted.ranges, *gids]))
+        tag = '"' + hashlib.sha256(named.encode()).hexdigest() + '"'
         headers = [FOREVER, ("Content-Type", "font/ttf"), ("Access-Control-Allow-Origin", "*"), *dictionaries.VARY]
         if tag in environ.get("HTTP_IF_NONE_MATCH", ""):
             return "304 Not Modified", [("ETag", tag), *headers], None
-        cut = made(font, wanted, kind)
+        cut = made(font, wanted, gids)
         known = dictionaries.known_to(environ, font.data) if dictionaries.can_serve(cut) else None
         if known is None:
-            return "200 OK", [("ETag", tag), *headers, *dictionaries.offer(cut, name, wanted, kind)], cut
+            offered = dictionaries.offer(cut, name, wanted.ranges, gids, wanted.kind)
+            return "200 OK", [("ETag", tag), *headers, *offered], cut
         # A strong tag would say that these are the bytes of the cut.
         return "200 OK", [("ETag", f"W/{tag}"), *headers, ("Content-Encoding", "dcz")], dictionaries.packed(cut, known)
 

@@ -53,9 +53,11 @@ def _check_shapes(given: argparse.Namespace, font: fontcut.Font, source: str, cu
     letters = set(map(chr, cut.codes))
     texts = part("prepare").wanted_of(font, cut.codes, letters, [page.blocks for page in shown]).texts
     lines = {block for page in shown for block in page.blocks}
+    # The cut has the variation sequences of lines alone.
+    others = [] if given.shaped else [sequences.plain(text) for text in texts if text not in lines]
     sets = [(), *{tuple(f"{tag}={value}" for tag, value in one) for page in shown for one in page.features if one}]
     part("fitted").check(source, font, cut.data, given.kind,
-                         [text for text in texts if text in lines or not given.shaped], sorted(sets)[:_TRIED])
+                         [*(text for text in texts if text in lines), *others], sorted(sets)[:_TRIED])
 
 
 def _closed(given: argparse.Namespace, font: fontcut.Font, shown: Sequence[Shown]) -> Cut:
@@ -131,7 +133,7 @@ def _dropped(given: argparse.Namespace, source: str, font: fontcut.Font, cut: Cu
     lines += losses.lines(source, font, cut.codes, given.kind, given.named is not None)
     with contextlib.suppress(Missing):
         lines += [f"{page.path}: {line}" for page in shown
-                  for line in sequences.told(page.text, [(source, font.data)])]
+                  for line in sequences.told(page.text, [(source, font, given.kind)])]
     return lines
 
 
