@@ -3,7 +3,7 @@ writes none.
 
 It follows docs/FORMAT.md and the definition of lean cuts: of `hmtx` and `vmtx` two files share what belongs to no
 single glyph, and what belongs to a glyph is compared and united with its outline. Another kind of cut that is joined
-in the same way brings a `Kind` of its own.
+in the same way brings a `Kind` of its own, and may have variation sequences, which belong to their glyphs.
 """
 from typing import Callable, Iterable, NamedTuple, Optional, Sequence
 
@@ -13,6 +13,7 @@ from font_reading import KEPT, MAX_FILE, Refusal, tables_of, tag_text
 import glyph_cutting
 from glyph_cutting import CutKind, Glyph
 from lean_cutting import METRICS, cleared, entry, pairs_in, without_names
+from sequence_reading import MOST_PAIRS
 
 
 def no_tables(_: bytes, __: bytes) -> dict[bytes, bytes]:
@@ -66,6 +67,14 @@ def different_table(first: bytes, second: bytes, kind: Kind) -> Optional[bytes]:
     return next((tag for tag in kind.tags if here.get(tag) != there.get(tag)), None)
 
 
+def is_too_long(first: bytes, second: bytes, kind: Kind) -> bool:
+    """Whether the variation sequences of two files do not fit into one `cmap`: one has two glyphs, or there are too
+    many."""
+    here, there = kind.cuts.sequences(first), kind.cuts.sequences(second)
+    return len(here.keys() | there.keys()) > MOST_PAIRS or any(
+        here[pair] != there[pair] for pair in here.keys() & there.keys())
+
+
 def difference_refusal(first: bytes, second: bytes, kind: Kind) -> Optional[Refusal]:
     """The number and text of what tells two lean cuts apart first, or None."""
     tag = different_table(first, second, kind)
@@ -75,7 +84,9 @@ def difference_refusal(first: bytes, second: bytes, kind: Kind) -> Optional[Refu
     if code is not None:
         return 22, f"different mapping U+{code:04X}"
     glyph = kind.different_glyph(first, second)
-    return None if glyph is None else (23, f"different glyph {glyph}")
+    if glyph is not None:
+        return 23, f"different glyph {glyph}"
+    return (29, "table too long cmap") if is_too_long(first, second, kind) else None
 
 
 def with_metrics(table: bytes, other: bytes, pairs: int, glyphs: Iterable[int]) -> bytes:
@@ -94,7 +105,8 @@ def joined_tables(first: bytes, second: bytes, kind: Kind) -> dict[bytes, bytes]
         if name in tables:
             pairs = pairs_in(tables, header, name, glyphs)
             tables[name] = with_metrics(tables[name], others[name], pairs, kind.kept(second))
-    tables[b"cmap"] = cmap_table(groups_of({**whole_map(first), **whole_map(second)}))
+    tables[b"cmap"] = cmap_table(groups_of({**whole_map(first), **whole_map(second)}),
+                                 {**kind.cuts.sequences(first), **kind.cuts.sequences(second)})
     records = {number: glyph.outline for file in (first, second) for number, glyph in kind.kept(file).items()}
     tables[b"glyf"], tables[b"loca"] = glyf_and_loca([records.get(glyph, b"") for glyph in range(glyphs)],
                                                      records.keys())
