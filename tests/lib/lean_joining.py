@@ -46,6 +46,13 @@ class Kind(NamedTuple):
         found: Optional[int] = different(self.kept(first), self.kept(second))
         return found
 
+    def has_room(self, first: bytes, second: bytes) -> bool:
+        """Whether the variation sequences of both cuts fit into one `cmap`: none has two glyphs, and there are not too
+        many."""
+        here, there = self.cuts.sequences(first), self.cuts.sequences(second)
+        return len(here.keys() | there.keys()) <= MOST_PAIRS and all(
+            here[pair] == there[pair] for pair in here.keys() & there.keys())
+
 
 def shared(file: bytes) -> dict[bytes, bytes]:
     """By tag what two lean cuts of one font have in common of their copied tables."""
@@ -67,14 +74,6 @@ def different_table(first: bytes, second: bytes, kind: Kind) -> Optional[bytes]:
     return next((tag for tag in kind.tags if here.get(tag) != there.get(tag)), None)
 
 
-def is_too_long(first: bytes, second: bytes, kind: Kind) -> bool:
-    """Whether the variation sequences of two files do not fit into one `cmap`: one has two glyphs, or there are too
-    many."""
-    here, there = kind.cuts.sequences(first), kind.cuts.sequences(second)
-    return len(here.keys() | there.keys()) > MOST_PAIRS or any(
-        here[pair] != there[pair] for pair in here.keys() & there.keys())
-
-
 def difference_refusal(first: bytes, second: bytes, kind: Kind) -> Optional[Refusal]:
     """The number and text of what tells two lean cuts apart first, or None."""
     tag = different_table(first, second, kind)
@@ -86,7 +85,7 @@ def difference_refusal(first: bytes, second: bytes, kind: Kind) -> Optional[Refu
     glyph = kind.different_glyph(first, second)
     if glyph is not None:
         return 23, f"different glyph {glyph}"
-    return (29, "table too long cmap") if is_too_long(first, second, kind) else None
+    return None if kind.has_room(first, second) else (29, "table too long cmap")
 
 
 def with_metrics(table: bytes, other: bytes, pairs: int, glyphs: Iterable[int]) -> bytes:
