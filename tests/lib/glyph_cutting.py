@@ -83,10 +83,10 @@ def glyphs_in(file: bytes, data_in: Callable[[bytes], Sequence[bytes]],
             place, size = entry(pairs, glyph)
             metrics[glyph] += tables[name][place:place + size]
     data = data_in(file) or [b""] * len(records)
-    variants: list[tuple[Pair, ...]] = [()] * len(records)
+    variants: list[list[Pair]] = [[] for _ in records]
     for pair, glyph in pairs_of(file).items():
-        variants[glyph] += (pair,)
-    return [Glyph(padded(outline), own, part, pairs)
+        variants[glyph].append(pair)
+    return [Glyph(padded(outline), own, part, tuple(pairs))
             for outline, own, part, pairs in zip(records, metrics, data, variants)]
 
 

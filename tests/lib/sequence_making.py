@@ -125,8 +125,8 @@ def with_random_sequences(chance: random.Random, file: bytes) -> bytes:
 
 
 def with_other_pairs(chance: random.Random, file: bytes) -> bytes:
-    """The font with another variation sequence, or with those of one glyph or of each on another one. Each is a mapping,
-    as in a cut."""
+    """The font with another variation sequence, or with those of one or of each glyph on another one. Each is a
+    mapping, as in a cut."""
     count, pairs, kind = len(outlines(file)), dict(sequences(file)), chance.random()
     other, moved = chance.randint(min(1, count - 1), count - 1), chance.choice([*pairs.values()] or [0])
     if kind < 0.2:

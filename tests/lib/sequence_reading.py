@@ -30,8 +30,9 @@ class Selector(NamedTuple):
 
     def size(self, table: bytes) -> int:
         """How many codes its lists have, which lie in the table."""
-        plain = table[self.ranges + 7:self.ranges + 4 + RANGE * listed(table, self.ranges):RANGE] if self.ranges else b""
-        return sum(plain) + len(plain) + listed(table, self.mappings)
+        ranges = listed(table, self.ranges)
+        more = table[self.ranges + 7:self.ranges + 4 + RANGE * ranges:RANGE]
+        return ranges + sum(more) + listed(table, self.mappings)
 
     def spans(self, table: bytes) -> list[tuple[int, int]]:
         """The first and the last code of each range."""
