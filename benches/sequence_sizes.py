@@ -6,17 +6,17 @@ import struct
 import sys
 from typing import NamedTuple, Optional, Sequence
 
-from checks import BABELSTONE, HANAZONO, PROGRAM, put, read, run, skip
+from checks import BABELSTONE, BIZUD, HANAZONO, IPAEX, PROGRAM, VLGOTHIC, put, read, run, skip
 from document import table
-from font_reading import sequences, tables_of, u16, u32
-from measure import VLGOTHIC, need
+from font_cutting import sequences
+from font_reading import tables_of, u16, u32
+from measure import need
 from pages import length_of
 from shaping_texts import TEXTS
 
-IPAEX, BIZ_UD = "/usr/share/fonts/opentype/ipaexfont-gothic", "/usr/share/fonts/truetype/bizud-gothic"
 FONTS = [(f"{IPAEX}/ipaexg.ttf", "fonts-ipaexfont-gothic"),
          (f"{VLGOTHIC}/VL-Gothic-Regular.ttf", "fonts-vlgothic"),
-         (f"{BIZ_UD}/BIZUDGothic-Regular.ttf", "fonts-morisawa-bizud-gothic"),
+         (f"{BIZUD}/BIZUDGothic-Regular.ttf", "fonts-morisawa-bizud-gothic"),
          (f"{HANAZONO}/HanaMinA.ttf", "fonts-hanazono"),
          (f"{BABELSTONE}/BabelStoneHan.ttf", "fonts-babelstone-han")]
 SEQUENCES = 24  # of a page
@@ -27,7 +27,7 @@ class Row(NamedTuple):
     """A font, how many sequences it has, how many the page has, and the bytes of the cut with and without them."""
 
     font: str
-    count: int
+    of_font: int
     of_page: int
     kept: int
     plain: int
@@ -60,12 +60,12 @@ def row(folder: str, path: str) -> Row:
     name, font = os.path.basename(path)[:-len(".ttf")], read(path)
     print(f"{name}: sequences of a page", file=sys.stderr, flush=True)
     text, plain, out = (os.path.join(folder, file) for file in ("page.txt", "plain.ttf", "cut.ttf"))
-    every = sequences(tables_of(font)[b"cmap"])
+    every = sequences(font)
     wanted = spread(sorted(every))
     sentence = next(text for text in TEXTS if text.startswith("すべて"))
-    put(text, f"{sentence}\n{''.join(chr(code) + chr(selector) for code, selector in wanted)}\n".encode())
+    put(text, f"{sentence}\n{''.join(chr(code) + chr(selector) for selector, code in wanted)}\n".encode())
     put(plain, without_sequences(font))
-    numbers = ",".join(str(glyph) for glyph in sorted({every[one] or 0 for one in wanted}))
+    numbers = ",".join(str(glyph) for glyph in sorted({every[one] for one in wanted}))
     kept = cut_length(path, out, "--text-file", text)
     return Row(name, len(every), len(wanted), kept,
                cut_length(plain, out, "--text-file", text, "--glyphs", numbers))
@@ -87,5 +87,5 @@ def tables(rows: Optional[Sequence[Row]]) -> dict[str, str]:
     if not rows:
         return {"sequences": "Not measured, for a program was not there."}
     return {"sequences": table(TITLES, [
-        [one.font, f"{one.count:,}", one.of_page, f"{one.kept:,}", f"{one.plain:,}", f"{one.kept / one.plain:.3f}"]
+        [one.font, f"{one.of_font:,}", one.of_page, f"{one.kept:,}", f"{one.plain:,}", f"{one.kept / one.plain:.3f}"]
         for one in rows])}
