@@ -1,8 +1,7 @@
-//! Tables as fontTools writes them: what is told of their glyphs, and what becomes of two.
+//! Tables as fontTools writes them: what is told of their glyphs, and what is made of a font's `cmap`.
 use crate::open_sequences::Sequences;
 use crate::sequence_reading::CodeMap;
 use crate::sequence_tables::table_of_font;
-use crate::sequence_union::{OfFirst, UnionPairs, first_twice};
 use sfnt_bytes::{Memory, NoMemory};
 use std::test::Fail;
 
@@ -25,13 +24,6 @@ const OTHER_SELECTOR: [u8; 50] = [
     0x00, 0xFE, 0x01, 0x00, 0x00, 0x00, 0x00, 0x00, 0x00, 0x00, 0x29, // the record of U+FE01
     0x00, 0x00, 0x00, 0x01, 0x00, 0x22, 0x29, 0x00, 0x07, // numUVSMappings, the mapping
     0x00, 0x00, 0x00, 0x01, 0x00, 0x22, 0x2A, 0x00, 0x08, // numUVSMappings, the mapping
-];
-
-// The same of U+FE00 after U+2229 with glyph 3.
-const OTHER_GLYPH: [u8; 30] = [
-    0x00, 0x0E, 0x00, 0x00, 0x00, 0x1E, 0x00, 0x00, 0x00, 0x01, // format, length, numVarSelectorRecords
-    0x00, 0xFE, 0x00, 0x00, 0x00, 0x00, 0x00, 0x00, 0x00, 0x00, 0x15, // the record of U+FE00
-    0x00, 0x00, 0x00, 0x01, 0x00, 0x22, 0x29, 0x00, 0x03, // numUVSMappings, the mapping
 ];
 
 #[test]
@@ -66,59 +58,6 @@ fn parts_are_compared(rt: HostRuntime) -> Result<(), Fail> {
     assert!(rt; !is_same(rt.alloc(), &TABLE, &OTHER_SELECTOR, 8)?);
     assert!(rt; !is_same(rt.alloc(), &TABLE, &OTHER_SELECTOR, 9)?);
     assert!(rt; is_same(rt.alloc(), &TABLE, &OTHER_SELECTOR, 10)?);
-    Ok(())
-}
-
-// Glyphs that are all of the first of two tables.
-#[derive(Drop)]
-struct All;
-
-impl OfFirst for All {
-    ghost use Rattle.std.specs.Prelude.{true};
-
-    ghost of_first = { λ _ _. true };
-
-    fn is_of_first(&self, _g: u16) -> bool {
-        true
-    }
-}
-
-// Glyphs below 7, which are of the first of two tables.
-#[derive(Drop)]
-struct Below;
-
-impl OfFirst for Below {
-    ghost use Rattle.std.specs.Prelude.{nat_lt};
-
-    ghost of_first = { λ _ g. nat_lt g 7 };
-
-    fn is_of_first(&self, g: u16) -> bool {
-        g < 7
-    }
-}
-
-// Returns what the union of two tables has twice, and how many pairs it has where it has nothing twice.
-fn twice<C: OfFirst, A: Memory + Copy>(
-    alloc: A,
-    choice: &C,
-    first: &[u8],
-    second: &[u8],
-) -> Result<(Option<(u32, u32)>, usize), NoMemory> {
-    let one = Sequences::open(alloc, first, 12)?;
-    let other = Sequences::open(alloc, second, 12)?;
-    Ok(first_twice(UnionPairs::of(choice, &one.pairs, &other.pairs)))
-}
-
-#[test]
-fn clashes_are_found(rt: HostRuntime) -> Result<(), Fail> {
-    let both = twice(rt.alloc(), &Below, &OTHER_GLYPH, &TABLE)?;
-    assert!(rt;
-        both.0 == Some((0xFE00, 0x2229)),
-        "glyph 3 in the first, 7 in the second"
-    );
-    let first = twice(rt.alloc(), &All, &TABLE, &OTHER_GLYPH)?;
-    assert!(rt; first.0.is_none(), "all are of the first");
-    assert_eq!(rt; first.1, 3);
     Ok(())
 }
 
