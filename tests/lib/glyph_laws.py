@@ -144,7 +144,7 @@ def laws_of_font(kind: Kind, font: bytes, sets: Sequence[Wanted]) -> Iterator[La
 
 def names_a_difference(refusal: Optional[Refusal]) -> bool:
     """Whether a join is refused because of what tells two cuts apart."""
-    return refusal is not None and refusal[0] in (21, 22, 23)
+    return refusal is not None and refusal[0] in (21, 22, 23, 29)
 
 
 def laws_of_pair(kind: Kind, first: bytes, second: bytes, above: Sequence[bytes]) -> Iterator[Law]:

@@ -1,5 +1,6 @@
 -- The table of variation sequences that is open, where it is read, in the words of divided tables.
-use Rattle.std.proofs.Common.{◌≡◌, ℕ, ◌≤◌, ◌<◌, Bool, true, false, not, nat_eq, nat_lt, cond, List, [], ◌∷◌, length, Option}
+use Rattle.std.proofs.Common.{◌≡◌, ℕ, ◌≤◌, ◌<◌, Bool, true, false, not, nat_eq, nat_lt, cond, List, [], ◌∷◌}
+use Rattle.std.proofs.Common.{length, Option}
 use Rattle.std.proofs.Common.{None, Some, unwrap_or, refl, sym, ◌∙◌, ap, subst, arith}
 use Rattle.std.specs.Option.{option_map, option_map_or, option_or}
 use Rattle.std.proofs.lemmas.Bool.{lt-ltb}
@@ -58,7 +59,8 @@ held_parts_are c o are = record {
       (c SEQUENCES) []) []) (lt-ltb g (glyph_count c) (subst (λ (n : ℕ). g < n) are.count_is low)));
 }
   where
-    go : (p : Option (List ℕ)) (g : ℕ) → sequence_table (part_of (unwrap_or (option_map (sequences_in (glyph_count c)) p)
+    go : (p : Option (List ℕ)) (g : ℕ) →
+        sequence_table (part_of (unwrap_or (option_map (sequences_in (glyph_count c)) p)
         []) g) ≡ option_map_or (λ t. sequence_table (part_of (sequences_in (glyph_count c) t) g)) p []
     go None g = no_part None g refl
     go (Some t) g = refl

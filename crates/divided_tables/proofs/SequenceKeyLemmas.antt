@@ -102,7 +102,8 @@ same_keys m n a b [] (q ∷ qs) r s e = absurd (omega (arith, ap (λ (l : List �
 same_keys m n a b (p ∷ ps) [] r s e = absurd (omega (arith, ap (λ (l : List ℕ). length l) e))
 same_keys m n a b (p ∷ ps) (q ∷ qs) r s e =
     let first : p ≡ q = own_key m n p q r.0 s.0 (ap (λ (l : List ℕ). get_or l 0 0) e) in
-    let rest : ps ≡ qs = same_keys m n (suc (place_of p)) (suc (place_of q)) ps qs r.2 s.2 (ap (λ (l : List ℕ). drop 1 l) e) in
+    let rest : ps ≡ qs = same_keys m n (suc (place_of p)) (suc (place_of q)) ps qs r.2 s.2
+    (ap (λ (l : List ℕ). drop 1 l) e) in
     λ i. first i ∷ rest i
 
 -- the keys of a glyph
@@ -110,7 +111,8 @@ of_glyph : (n g low : ℕ) (ps : List Pair) → Rises (IsPairAmong n) place_of l
     → filter (is_between g (g + 1)) (map key_of ps) ≡ map key_of (filter (λ p. eqb p.glyph g) ps)
 of_glyph n g low [] r = refl
 of_glyph n g low (p ∷ ps) r =
-    (λ i. cond (pair_test n g p r.0 i) (key_of p ∷ of_glyph n g (suc (place_of p)) ps r.2 i) (of_glyph n g (suc (place_of p)) ps r.2 i))
+    (λ i. cond (pair_test n g p r.0 i) (key_of p ∷ of_glyph n g (suc (place_of p)) ps r.2 i)
+    (of_glyph n g (suc (place_of p)) ps r.2 i))
     ∙ by_test (eqb p.glyph g)
   where
     by_test : (b : Bool) → cond b (key_of p ∷ map key_of (filter (λ q. eqb q.glyph g) ps))

@@ -114,7 +114,8 @@ module _ (c : ℕ → Bool) (ps qs : List Pair) (i j : ℕ) (one : IsCount (is_o
       let rest : Ascends IsAny order_of (order_of x) xs =
       (ascends_by order_of 0 (x ∷ xs) (λ d some. omega arith)
       (subst (IsNonDecreasingBy order_of) e (order_cut i ps first))).2 in
-      let others : Ascends IsAny order_of (order_of x) S = ascends_by order_of (order_of x) S from (order_cut j qs second) in
+      let others : Ascends IsAny order_of (order_of x) S = ascends_by order_of (order_of x) S from
+      (order_cut j qs second) in
       united_is (x ∷ xs) S (sym e) refl
       ∙ ap (λ (f : List Pair). together f (filter (is_of c false) S))
       (cond-true (is_of c true x) (x ∷ filter (is_of c true) xs) (filter (is_of c true) xs) here)

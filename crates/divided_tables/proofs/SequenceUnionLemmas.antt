@@ -181,7 +181,8 @@ kept_of_table n t keep =
     (λ g. cond (keep g) (sequence_table (part_of ps g)) []) (λ g. by_test g (keep g)) (range_with_len 0 n))
     ∙ ap (filter (λ p. keep p.glyph)) (own_merged n ps both.0 both.1)
   where
-    by_test : (g : ℕ) (b : Bool) → part_of (sequences_in n (cond b (sequence_table (part_of (sequences_in n t) g)) [])) g
+    by_test : (g : ℕ) (b : Bool) →
+        part_of (sequences_in n (cond b (sequence_table (part_of (sequences_in n t) g)) [])) g
         ≡ cond b (part_of (sequences_in n (sequence_table (part_of (sequences_in n t) g))) g) []
     by_test g true = refl
     by_test g false = ap (λ (ps : List Pair). part_of ps g) (sequences_in-none n) ∙ part-none g

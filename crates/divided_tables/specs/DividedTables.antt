@@ -1,4 +1,5 @@
--- All divided tables, as they are open and as they are made anew. This is this project's own (OpenType 1.9, cmap, Format
+-- All divided tables, as they are open and as they are made anew. This is this project's own (OpenType 1.9,
+-- cmap, Format
 -- 14: Unicode variation sequences; gvar; hmtx; post; vmtx).
 use Rattle.std.specs.Prelude.{◌≡◌, ℕ, ◌≤◌, nat_eq, nat_lt, ◌&&◌, ◌||◌, Bool, true, List, [], length, if◌then◌else◌}
 use Rattle.std.specs.Prelude.{Option, None, unwrap_or}

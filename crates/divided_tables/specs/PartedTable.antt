@@ -1,5 +1,6 @@
 -- One divided table: what is told of it where it is open, and what is made of it. This is this project's own.
-use Rattle.std.specs.Prelude.{◌≡◌, ℕ, ◌<◌, ◌≤◌, nat_eq, ◌||◌, Bool, true, false, List, [], length, if◌then◌else◌, Option, None, Some}
+use Rattle.std.specs.Prelude.{◌≡◌, ℕ, ◌<◌, ◌≤◌, nat_eq, ◌||◌, Bool, true, false, List, [], length}
+use Rattle.std.specs.Prelude.{if◌then◌else◌, Option, None, Some}
 use Rattle.std.specs.Prelude.{is_some}
 use Rattle.std.specs.Option.{option_map, option_map_or, option_or}
 use Rattle.sfnt_bytes.specs.Directory.{is_layout_slot}

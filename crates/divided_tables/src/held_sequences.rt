@@ -13,8 +13,9 @@ ghost use Rattle.font_theory.specs.declared.kinds.TheConstants.{SEQUENCES as SEQ
 ghost use Rattle.divided_tables.specs.HeldSequences.{AreHeldBy, held_parts};
 ghost use Rattle.divided_tables.specs.PartedTable.{IsRoomOf, IsUnionOf, alone};
 
+use crate::open_sequences::Sequences;
 use crate::parted_table::PartedTable;
-use crate::sequences::{Sequences, empty_frame};
+use crate::sequence_tables::empty_frame;
 use font_theory::SEQUENCES;
 use font_write::Source;
 use sfnt_bytes::{Memory, NoMemory};

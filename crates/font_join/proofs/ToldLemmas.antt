@@ -223,7 +223,8 @@ glyph_told k K L first second copied g =
     go (Some a) (Some b) m = turned (not (bytes_eq a b)) m
 
 -- contents with no difference in a table have the same tables
-pub all_tables : (k : Kind) (K L : Content) → Arises (format_of k) K → Arises (format_of k) L → early_difference K L ≡ None
+pub all_tables : (k : Kind) (K L : Content) → Arises (format_of k) K → Arises (format_of k) L →
+    early_difference K L ≡ None
     → (slot : ℕ) → K.copied slot ≡ L.copied slot
 all_tables k K L first second early slot = elim (cases_Bool (is_never_copied slot)) [
   | inl t ↦ elim (cases_eq slot SEQUENCES) [

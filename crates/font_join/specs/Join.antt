@@ -1,5 +1,6 @@
 -- What the join of two files answers, this project's own, over the format of the cuts that are joined.
-use Rattle.std.specs.Prelude.{◌≡◌, ◌≢◌, ℕ, ◌<◌, nat_eq, nat_lt, not, if◌then◌else◌, List, [], ◌∷◌, ◌++◌, length, Option, None, Some}
+use Rattle.std.specs.Prelude.{◌≡◌, ◌≢◌, ℕ, ◌<◌, nat_eq, nat_lt, not, if◌then◌else◌, List, [], ◌∷◌, ◌++◌}
+use Rattle.std.specs.Prelude.{length, Option, None, Some}
 use Rattle.std.specs.Option.{option_map, option_or}
 use Rattle.sfnt_bytes.specs.Directory.{slot_tag}
 use Rattle.sfnt_bytes.specs.Lines.{first_of_lines, when}

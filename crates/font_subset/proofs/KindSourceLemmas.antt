@@ -2,7 +2,8 @@
 use Rattle.std.proofs.Common.{◌≡◌, ◌≢◌, ℕ, suc, ◌<◌, ◌≤◌, false, true, refl, List, length, None, Some, sym, ◌∙◌, ap}
 use Rattle.std.proofs.Common.{subst}
 use Rattle.std.specs.Option.{IsSome, is_some, option_or}
-use Rattle.font_theory.specs.Content.{Content, IsClosedContent, IsWritable, KeepsComponents, Wanted, content, glyph_count}
+use Rattle.font_theory.specs.Content.{Content, IsClosedContent, IsWritable, KeepsComponents, Wanted, content}
+use Rattle.font_theory.specs.Content.{glyph_count}
 use Rattle.font_theory.specs.Kinds.{divides_tables, fault_of, font_of, format_by, format_of, full_settings}
 use Rattle.font_theory.specs.Kinds.{partition_of, read_by, reduced, settings, spelled_by, table_in_file, tables_of}
 use Rattle.font_theory.specs.Kinds.Reading.{absent}

@@ -101,7 +101,8 @@ misfit-sequences p always K =
     last None = refl
     last (Some slot) = refl
 
-pub misfit-tagged : (p : Partition) → ((slot : ℕ) → slot ≢ SEQUENCES → (c : Tables) (frame : List ℕ) (parts : ℕ → List ℕ)
+pub misfit-tagged : (p : Partition) →
+    ((slot : ℕ) → slot ≢ SEQUENCES → (c : Tables) (frame : List ℕ) (parts : ℕ → List ℕ)
     → (p slot).fits c frame parts ≡ true) → (K : Content) → (misfit_by p K ≡ None) ⊎ (misfit_by p K ≡ Some SEQUENCES)
 misfit-tagged p always K = go (fits_at p K.copied K.parts SEQUENCES) (misfit-sequences p always K)
   where

@@ -822,7 +822,8 @@ module _ (X : List ℕ) (still : HasNothingVarying X) where
         ap (file current_writing)
         (reduced-is variable.partition variable_is.partition F ok A ∙ reduced_same (content F A) no_gvar
         ∙ sym (reduced-is layout.partition layout_is.partition F ok A)
-        ∙ sym (ap (λ (G : Font). undivided_content layout.partition (content (divided layout.partition G) A)) same_font))
+        ∙ sym (ap (λ (G : Font). undivided_content layout.partition
+        (content (divided layout.partition G) A)) same_font))
 
     -- it is accepted for layout cuts
     abbrev tags : List Tag
@@ -862,7 +863,8 @@ fit : (X gvar : List ℕ) → fault_of Variable X ≡ None → table_of X (slot_
     → IsForGvar (front_of gvar) (shared_tuples_of gvar)
 unfolding variable_settings
 fit X gvar accepted e =
-    parts_fit gvar _ _ (good-font (font_of Variable X) (IsFont-by (settings Variable) (settings-are Variable) X accepted)
+    parts_fit gvar _ _ (good-font (font_of Variable X)
+    (IsFont-by (settings Variable) (settings-are Variable) X accepted)
     GVAR gvar e)
 
 pub gvar-empty : (X Y gvar other : List ℕ) (n : ℕ) → fault_of Variable X ≡ None → fault_of Variable Y ≡ None

@@ -37,7 +37,8 @@ returns-then-fits-clause-told g c = λ K spells alike.
     let keeps : keeps_sequences v.kind ≡ true =
     told_of_kind keeps_sequences _ v c.self.view_is c.kind.result true c.kind.ensures.kind
     c.if-not-keeps_sequences.ensures in
-    room_told v.kind keeps (content_in v) (content (font_of v.kind y) everything) K (content_of_all (format_of v.kind) y)
+    room_told v.kind keeps (content_in v) (content (font_of v.kind y) everything) K
+    (content_of_all (format_of v.kind) y)
     spells (spells_file v.kind y c.requires.form) (c.requires.early K spells) alike true
     (subst (λ (k : Kind). IsRoomOf sequences SEQUENCES (content_in v) (content (font_of k y) everything) true)
     c.requires.same c.if-fits.ensures)
@@ -49,7 +50,8 @@ returns-clause-told g c = λ K spells alike.
     let keeps : keeps_sequences v.kind ≡ true =
     told_of_kind keeps_sequences _ v c.self.view_is c.kind.result true c.kind.ensures.kind
     c.if-not-keeps_sequences.ensures in
-    room_told v.kind keeps (content_in v) (content (font_of v.kind y) everything) K (content_of_all (format_of v.kind) y)
+    room_told v.kind keeps (content_in v) (content (font_of v.kind y) everything) K
+    (content_of_all (format_of v.kind) y)
     spells (spells_file v.kind y c.requires.form) (c.requires.early K spells) alike false
     (subst (λ (k : Kind). IsRoomOf sequences SEQUENCES (content_in v) (content (font_of k y) everything) false)
     c.requires.same c.if-fits.ensures)

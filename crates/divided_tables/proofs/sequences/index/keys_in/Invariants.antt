@@ -1,6 +1,0 @@
-use Rattle.std.proofs.Common.{◌≡◌, ◌++◌, drop, map}
-use Rattle.divided_tables.specs.SequenceIndex.{key_of}
-use Rattle.divided_tables.proofs.sequences.index.keys_in.Given as goal
-
-abbrev pub invariant-loop-pair : goal.invariant-loop-pair
-invariant-loop-pair g l = l.keys.items ++ map key_of (drop l.pair-index l.pairs) ≡ map key_of l.pairs
