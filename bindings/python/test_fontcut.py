@@ -715,14 +715,14 @@ class Asking(unittest.TestCase):
 
     def assert_sequences_are_kept(self, font: bytes) -> None:
         """Shaped cuts for texts have the sequences of the glyphs that they keep, and their join has those of all."""
-        known, plain = {(0x41, 0xFE00): 1, (0x42, 0xE0100): 5}, {"A": 1}
+        known, plain = {(0xFE00, 0x41): 1, (0xE0100, 0x42): 5}, {"A": 1}
         kinds: List[Tuple[str, bool]] = [("lean", False), ("layout", True), ("variable", True)]
         for kind, has in kinds:
             cuts = [fontcut.cut(font, text, kind=kind, exactly=True) for text, _ in VARIANTS]
             for (text, glyphs), made in zip(VARIANTS, cuts):
                 kept = {*glyphs, *(plain[letter] for letter in text if letter in plain)} if has else set()
                 wanted = {pair: glyph for pair, glyph in known.items() if glyph in kept}
-                self.assertEqual(font_reading.sequences(font_reading.table(made, b"cmap")), wanted)
+                self.assertEqual(font_cutting.sequences(made), wanted)
                 self.assertEqual(fontcut.variants(made, "A\ufe00B\U000e0100"), sorted(wanted.values()))
             every = fontcut.cut(font, {ord(letter) for text, _ in VARIANTS for letter in text}, kind=kind,
                                 gids=[1, 5] if has else None)

@@ -1,10 +1,10 @@
 """A small font with variation sequences, and the sequences that cuts of it have, by the second reading."""
 import os
-from typing import Mapping, Optional
+from typing import Mapping
 
 from checks import HANAZONO, PYTHON, check, read, run
-from font_cutting import whole_map
-from font_reading import sequences, table
+from font_cutting import sequences, whole_map
+from sequence_reading import Pair
 
 # Of Debian's package fonts-hanazono, which has each sequence as a mapping of its own.
 LARGE = f"{HANAZONO}/HanaMinA.ttf"
@@ -22,7 +22,7 @@ font.save(sys.argv[2])
 """
 
 # Glyphs by selectors and characters.
-Sequences = Mapping[tuple[int, int], Optional[int]]
+Sequences = Mapping[Pair, int]
 
 
 def is_made_small(path: str) -> bool:
@@ -37,11 +37,11 @@ def is_made_small(path: str) -> bool:
 
 def sequences_of(path: str) -> Sequences:
     """The sequences of the font in a file, with their glyphs."""
-    found = sequences(table(read(path), b"cmap"))
-    return {(selector, code): glyph for (code, selector), glyph in found.items()}
+    found: Sequences = sequences(read(path))
+    return found
 
 
-def kept_of(path: str, codes: str, *pairs: tuple[int, int]) -> Sequences:
+def kept_of(path: str, codes: str, *pairs: Pair) -> Sequences:
     """The sequences that a cut of the font in a file has for these characters and sequences: those of the glyphs of
     both."""
     known, glyphs = sequences_of(path), whole_map(read(path))
