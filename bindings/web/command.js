@@ -245,7 +245,9 @@ function runSubset(given, [font, out, ...words]) {
             lacking: lackingOf(data, sequences) };
         const paths = (given.text ?? []).filter((one) => one !== '-' && isFile(one)).map((path) =>
             `${shownName(path)} is a file: --text keeps the characters of its path, --text-file those in it`);
-        say([...emptyOf(given, texts, lists), ...paths, ...lossesOf(shownName(font), data, kind, asked)]);
+        const none = !SHAPED.includes(kind) && lists.some((one) => one.sequences.length)
+            ? ['full and lean cuts have no variation sequences: add --layout'] : [];
+        say([...emptyOf(given, texts, lists), ...none, ...paths, ...lossesOf(shownName(font), data, kind, asked)]);
     }
 }
 
