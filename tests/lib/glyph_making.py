@@ -2,8 +2,8 @@
 import random
 from typing import Mapping, NamedTuple, Optional, Sequence
 
-from font_changing import with_tables
-from font_cutting import ALL, assembled, cmap_table, glyf_and_loca, groups_of, outlines, ranges_of
+from font_changing import with_codes, with_tables
+from font_cutting import ALL, assembled, cmap_table, glyf_and_loca, groups_of, outlines, ranges_of, whole_map
 from font_reading import tables_of
 from glyph_cutting import ALL_CODES, EVERYTHING, LAYOUT_CUTS, LEAN, VARIABLE, CutKind, Wanted
 from layout_making import numbers, random_layout, spoiled, with_layout
@@ -110,7 +110,10 @@ def font_for(chance: random.Random, kind: CutKind) -> bytes:
 def another_version(chance: random.Random, kind: CutKind, font: bytes) -> bytes:
     """A font in which something may be otherwise: a mapping, an outline, metrics, a table, variation sequences, or what
     is blank."""
-    if kind.name != LEAN.name and chance.random() < 0.4:
+    codes, count = sorted(whole_map(font)), len(outlines(font))
+    if codes and count > 1 and chance.random() < 0.1:
+        return bytes(with_codes(font, {chance.choice(codes): chance.randrange(1, count)}))
+    if kind.name != LEAN.name and chance.random() < 0.3:
         return with_other_pairs(chance, font)
     if chance.random() < 0.3:
         return with_blanks(chance, kind, font, 1)
