@@ -207,10 +207,11 @@ fontcut_answer fontcut_lost(const fontcut_request *request, const uint8_t *font,
                             fontcut_losses *losses);
 
 /* Writes the glyphs that a file keeps as a cut of a fontcut_kind to the front of `out`, ascending: .notdef, the glyphs
- * of its characters, in all but full cuts those that have an outline, metrics of their own or, for FONTCUT_VARIABLE,
- * variation data, and what these are made of; size: how many they are. A file that is a cut is that of its font for
- * these, without FONTCUT_CLOSES, and for the codes that fontcut_codes writes. `room` is in glyphs. Statuses: 101; those
- * of fontcut_check, then for FONTCUT_LAYOUT 5 and 6, and for FONTCUT_VARIABLE 5, 6 and 28; 16, 100. */
+ * of its characters, in all but full cuts those that have an outline, metrics of their own, for FONTCUT_LAYOUT and
+ * FONTCUT_VARIABLE variation sequences or, for FONTCUT_VARIABLE, variation data, and what these are made of; size: how
+ * many they are. A file that is a cut is that of its font for these, without FONTCUT_CLOSES, and for the codes that
+ * fontcut_codes writes. `room` is in glyphs. Statuses: 101; those of fontcut_check, then for FONTCUT_LAYOUT 5 and 6, and
+ * for FONTCUT_VARIABLE 5, 6 and 28; 16, 100. */
 fontcut_answer fontcut_kept(uint32_t kind, const uint8_t *font, size_t font_length, uint16_t *out, size_t room);
 
 /* Says whether a font is a cut of a fontcut_kind, and in which form; detail: FONTCUT_CURRENT_CUT or one of the other
@@ -230,9 +231,9 @@ fontcut_answer fontcut_belongs(uint32_t kind, const uint8_t *cut, size_t cut_len
  * may come in either form; the join is written in the current one. Statuses: 101; 24; of the first file that is
  * refused, with its index as step, those of fontcut_check, for FONTCUT_LAYOUT 5 and 6, for FONTCUT_VARIABLE 5, 6 and
  * 28, then 20, 21 to 23 where it differs from the join of the files before it, 29 where the parts of both do not fit in
- * a table, which no kind of today meets, and 18 where the join with it is too large; 16, with the index of the file that
- * was being joined as step; 100. But for 1, 16, 18, 24 and those from 100 on, a refusal means that no file has all as
- * cuts. */
+ * a table, as where a variation sequence has two glyphs, and 18 where the join with it is too large; 16, with the index
+ * of the file that was being joined as step; 100. But for 1, 16, 18, 24 and those from 100 on, a refusal means that no
+ * file has all as cuts. */
 fontcut_answer fontcut_join(uint32_t kind, const fontcut_bytes *files, size_t file_count, uint8_t *out, size_t room);
 
 /* Writes the codes that a font maps to the front of `out`, as the least number of ranges, in ascending order;
