@@ -1,6 +1,7 @@
 //! Cuts that were changed: fonts that are in no form of a cut, and have the tables and the `cmap` of one.
 use crate::coverage_lines::{is_of_layout, is_of_variations};
 use crate::cut_kinds::cut_kind;
+use crate::sequences::has_sequence;
 use font_file::Font;
 use font_subset::{CutError, FontToCut, OpenError, cut_of_kind};
 use font_texts::{long_at, table_named};
@@ -64,9 +65,11 @@ pub fn may_be_cut(file: &[u8]) -> bool {
     }
 }
 
-// Returns the kind of which a font without layout is a cut, if it is one.
+// Returns the kind of which a font without layout tables is a cut, if it is one.
 fn plain_kind(font: &Font<'_>) -> Kind {
-    if long_at(table_named(font, Tag(*b"post")), 0) == NAMELESS {
+    if has_sequence(font) {
+        Kind::Layout
+    } else if long_at(table_named(font, Tag(*b"post")), 0) == NAMELESS {
         Kind::Lean
     } else {
         Kind::Full

@@ -6,12 +6,12 @@ ghost use Rattle.font_tables.specs.Fields.{glyph_count_of};
 ghost use Rattle.variation_sequences.specs.Sequences.{variant_glyph, variant_of};
 
 use crate::kept::Kept;
-use crate::sequences::sequences_of;
+use crate::sequences::{has_glyph, sequences_of};
 use font_file::Font;
 use font_subset::keeps_layout;
 use font_theory::Kind;
 use std::alloc::{AllocError, Global};
-use variation_sequences::{Entry, Sequences, pair_of, variant_glyph};
+use variation_sequences::{Sequences, variant_glyph};
 use wanted_characters::{CodeSet, SequenceSet, add_sequences, numbers_of};
 
 // How many sequences that a font lacks are named.
@@ -185,11 +185,6 @@ pub fn variants(alloc: Global, font: &Font<'_>, text: &str) -> Result<Vec<u16>, 
     let mut asked = SequenceSet::new(alloc);
     add_sequences(alloc, &mut asked, &[text])?;
     WantedSequences::of(alloc, font, &asked)?.glyphs(alloc)
-}
-
-// Returns whether a font has a glyph for a sequence of its table.
-fn has_glyph(font: &Font<'_>, entry: Entry) -> bool {
-    pair_of(entry, font.glyph(entry.code), font.tables().glyph_count()).is_some()
 }
 
 // Returns the characters and selectors of the sequences that a table has, and for which the font has glyphs, each as a

@@ -1,15 +1,38 @@
-//! The variation sequences of a font whose codes are wanted, which full and lean cuts drop. OpenType 1.9, cmap, Format 14:
-//! Unicode Variation Sequences.
+//! The variation sequences of a font, and those whose codes are wanted, which full and lean cuts drop. OpenType 1.9, cmap,
+//! Format 14: Unicode Variation Sequences.
 use codes::Wanted;
 use font_file::Font;
 use font_texts::table_named;
 use sfnt_bytes::Tag;
-use variation_sequences::Sequences;
+use variation_sequences::{Entry, Sequences, pair_of};
 use wanted_characters::SELECTORS;
 
 /// Returns the variation sequences of a font, where it has a subtable of them, which is in order.
 pub(crate) fn sequences_of<'a>(font: &Font<'a>) -> Option<Sequences<'a>> {
     Sequences::open(table_named(font, Tag(*b"cmap")))
+}
+
+/// Returns whether a font has a glyph for a sequence of its table.
+pub(crate) fn has_glyph(font: &Font<'_>, entry: Entry) -> bool {
+    pair_of(entry, font.glyph(entry.code), font.tables().glyph_count()).is_some()
+}
+
+/// Returns whether a font has a variation sequence.
+pub(crate) fn has_sequence(font: &Font<'_>) -> bool {
+    let Some(sequences) = sequences_of(font) else {
+        return false;
+    };
+    for entry in sequences.entries() {
+        if has_glyph(font, entry) {
+            return true;
+        }
+    }
+    false
+}
+
+// Returns whether the character and the selector of a sequence are both wanted.
+fn is_wanted(wanted: &Wanted, entry: Entry) -> bool {
+    wanted.contains(entry.selector) && wanted.contains(entry.code)
 }
 
 // Returns the first wanted code from one to another.
@@ -36,7 +59,7 @@ pub(crate) fn wanted_sequence(font: &Font<'_>, wanted: &Wanted) -> Option<(u32, 
         return None;
     }
     for entry in sequences_of(font)?.entries() {
-        if wanted.contains(entry.selector) && wanted.contains(entry.code) {
+        if is_wanted(wanted, entry) && has_glyph(font, entry) {
             return Some((entry.code, entry.selector));
         }
     }
