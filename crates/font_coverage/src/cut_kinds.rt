@@ -69,8 +69,9 @@ fn has_more(kind: Kind, font: &Font<'_>) -> bool {
     keeps_layout(kind) && has_sequence(font)
 }
 
-/// Returns the kind of a font that is a cut. Where the font has no table of layout and no sequence, a lean cut has the form of a layout
-/// cut too, and a layout cut of a font without variations has that of a variable one: the first kind is returned.
+/// Returns the kind of a font that is a cut. Where the font has no table of layout and no sequence, a lean cut has the form
+/// of a layout cut too, and a layout cut of a font without variations has that of a variable one: the first kind is
+/// returned.
 ///
 /// # Errors
 /// `NoMemory` if out of memory.
