@@ -68,7 +68,7 @@ def row(folder: str, path: str) -> Row:
     numbers = ",".join(str(glyph) for glyph in sorted({every[one] for one in wanted}))
     kept = cut_length(path, out, "--text-file", text)
     return Row(name, len(every), len(wanted), kept,
-               cut_length(plain, out, "--text-file", text, "--glyphs", numbers))
+               cut_length(plain, out, "--text-file", text, "--gids", numbers))
 
 
 def measured(folder: str) -> Optional[list[Row]]:

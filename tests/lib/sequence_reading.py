@@ -120,9 +120,9 @@ def sequence_subtable(sequences: Mapping[Pair, int]) -> bytes:
     their lists, end to end."""
     rows = [(selector, [struct.pack(">I", code)[1:] + struct.pack(">H", glyph) for (_, code), glyph in group])
             for selector, group in groupby(sorted(sequences.items()), lambda item: item[0][0])]
-    records, lists = b"", b""
+    records, lists = bytearray(), bytearray()
     for selector, mappings in rows:
         place = HEADER + RECORD * len(rows) + len(lists)
         records += struct.pack(">I", selector)[1:] + struct.pack(">II", 0, place)
         lists += struct.pack(">I", len(mappings)) + b"".join(mappings)
-    return struct.pack(">HII", 14, HEADER + len(records) + len(lists), len(rows)) + records + lists
+    return struct.pack(">HII", 14, HEADER + len(records) + len(lists), len(rows)) + bytes(records + lists)
