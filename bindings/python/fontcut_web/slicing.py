@@ -203,8 +203,8 @@ def _cut(font: Font, base: Base, one: Slice) -> bytes:
     with refusing(font.path):
         cut = fontcut.cut(source, one.codes, kind=font.kind, gids=_drawn(font, one))
     if font.is_fitted:
-        # The cut has the variation sequences alone that are named. Of those that the font lacks the selector is drawn as
-        # a blank, which is perhaps in another slice.
+        # The cut has the variation sequences alone that are named. Of those that the font lacks the selector is drawn
+        # as a blank, which is perhaps in another slice.
         texts = map(sequences.plain, samples(font.font, set(map(chr, one.codes))))
         drawn = (pair for pair in one.sequences if fontcut.variants(font.font, pair))
         fitted.check(font.path, font.font, cut, font.kind, [*texts, *drawn])
