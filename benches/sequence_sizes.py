@@ -1,5 +1,5 @@
-"""What variation sequences cost a page as WOFF2: exact cuts for a sentence and some sequences, beside cuts that keep the
-same glyphs of the same font without its sequences."""
+"""What variation sequences cost a page as WOFF2: exact cuts for a sentence and some sequences, beside cuts that keep
+the same glyphs of the same font without its sequences."""
 import os
 import shutil
 import struct
