@@ -28,14 +28,6 @@ SHAPED = ("layout", "variable")
 Range = Tuple[int, int]
 
 
-class Wanted(NamedTuple):
-    """What a query asks for: code points, texts, and the kind of the cut."""
-
-    ranges: List[Range]
-    texts: List[str]
-    kind: str
-
-
 class Font(NamedTuple):
     """The bytes of a font, their digest, and why it is refused, if it is."""
 
@@ -71,16 +63,8 @@ def fonts_of(folder: str) -> Dict[str, Font]:
             if entry.is_file() and entry.name.endswith(".ttf") and entry.stat().st_size}
 
 
-def kind_of(asked: Dict[str, List[str]]) -> str:
-    """The kind of cut that a query asks for."""
-    kind = asked.get("kind", ["full"])[-1]
-    if kind not in KINDS:
-        raise Answer("400 Bad Request", "kind is full, lean, layout or variable")
-    return kind
-
-
-def wanted_by(query: str) -> Wanted:
-    """What a query asks for."""
+def wanted_by(query: str) -> Tuple[List[Range], List[str], str]:
+    """What a query asks for: code points, the texts that are to be shaped, and the kind of the cut."""
     if len(query) > LONGEST_QUERY:
         raise Answer("414 URI Too Long", f"a query has {LONGEST_QUERY} characters at most")
     try:
@@ -91,27 +75,22 @@ def wanted_by(query: str) -> Wanted:
         raise Answer("400 Bad Request", "bad query") from None
     if not asked.keys() <= {"unicodes", "text", "kind"} or not asked.keys() & {"unicodes", "text"}:
         raise Answer("400 Bad Request", "a query has unicodes or text, and may have kind")
-    kind = kind_of(asked)
+    kind, texts = asked.get("kind", ["full"])[-1], asked.get("text", [])
+    if kind not in KINDS:
+        raise Answer("400 Bad Request", "kind is full, lean, layout or variable")
     lists = [re.sub(r"(?<![^\s,;:-])([Uu]) (?=[0-9A-Fa-f?])", r"\1+", value) for value in asked.get("unicodes", ())]
-    texts = asked.get("text", [])
     letters = set("".join(map(fontcut.needed, texts) if kind in SHAPED else texts))
     try:
         ranges = fontcut.ranges([*lists, *(f"U+{ord(letter):X}" for letter in letters)])
     except ValueError as error:
         raise Answer("400 Bad Request", str(error)) from None
-    return Wanted([(first, last) for first, last in ranges], texts, kind)
+    return [(first, last) for first, last in ranges], texts if kind in SHAPED else [], kind
 
 
-def drawn(font: Font, wanted: Wanted) -> List[int]:
-    """The glyphs of the variation sequences of texts."""
-    texts = wanted.texts if wanted.kind in SHAPED else []
-    return sorted({glyph for text in texts for glyph in fontcut.variants(font.data, text)})
-
-
-def made(font: Font, wanted: Wanted, gids: List[int]) -> bytes:
+def made(font: Font, ranges: List[Range], gids: List[int], kind: str) -> bytes:
     """The cut."""
     try:
-        return fontcut.cut(font.data, wanted.ranges, kind=wanted.kind, gids=gids or None)
+        return fontcut.cut(font.data, ranges, kind=kind, gids=gids or None)
     except fontcut.Refused as refused:
         raise Answer("502 Bad Gateway", f"the cut is refused: {refused.text}") from None
     except MemoryError:
@@ -144,20 +123,18 @@ class Application:
         font = self.fonts.get(name)
         if font is None:
             raise Answer("404 Not Found", "there is no such font")
-        wanted = wanted_by(environ.get("QUERY_STRING", ""))
+        ranges, texts, kind = wanted_by(environ.get("QUERY_STRING", ""))
         if font.refusal:
             raise Answer("502 Bad Gateway", f"the font is refused: {font.refusal}")
-        gids = drawn(font, wanted)
-        named = " ".join(map(str, [font.digest, wanted.kind, wanted.ranges, *gids]))
-        tag = '"' + hashlib.sha256(named.encode()).hexdigest() + '"'
+        gids = sorted({glyph for text in texts for glyph in fontcut.variants(font.data, text)})
+        tag = '"' + hashlib.sha256(f"{font.digest} {kind} {ranges} {gids}".encode()).hexdigest() + '"'
         headers = [FOREVER, ("Content-Type", "font/ttf"), ("Access-Control-Allow-Origin", "*"), *dictionaries.VARY]
         if tag in environ.get("HTTP_IF_NONE_MATCH", ""):
             return "304 Not Modified", [("ETag", tag), *headers], None
-        cut = made(font, wanted, gids)
+        cut = made(font, ranges, gids, kind)
         known = dictionaries.known_to(environ, font.data) if dictionaries.can_serve(cut) else None
         if known is None:
-            offered = dictionaries.offer(cut, name, wanted.ranges, gids, wanted.kind)
-            return "200 OK", [("ETag", tag), *headers, *offered], cut
+            return "200 OK", [("ETag", tag), *headers, *dictionaries.offer(cut, name, ranges, gids, kind)], cut
         # A strong tag would say that these are the bytes of the cut.
         return "200 OK", [("ETag", f"W/{tag}"), *headers, ("Content-Encoding", "dcz")], dictionaries.packed(cut, known)
 
