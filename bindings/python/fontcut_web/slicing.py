@@ -27,6 +27,8 @@ _NAMED = 5
 _AT_ONCE = 16
 # A font whose layout tables have so many bytes at most, prepared for all slices, is not prepared for each of them.
 _SHARED = 4096
+# What browsers turn on by themselves in numbers: of lists, and upright ones in vertical lines.
+_NUMBERS = "hwid", "qwid", "tnum", "twid"
 
 
 class Font(NamedTuple):
@@ -190,7 +192,7 @@ def _base_of(font: Font) -> Base:
     if not font.is_fitted:
         return Base(font.font, False)
     every = sorted({code for one in font.slices for code in one.codes})
-    base = fitted.fitted(font.font, every, font.kind)
+    base = fitted.fitted(font.font, every, font.kind, _NUMBERS)
     return Base(base, len(font.slices) > 1 and fitted.layout_size(base) > _SHARED)
 
 
@@ -199,7 +201,7 @@ def _cut(font: Font, base: Base, one: Slice) -> bytes:
     source = base.font
     if base.is_for_each:
         with refusing(font.path):
-            source = fitted.fitted(source, one.codes, font.kind)
+            source = fitted.fitted(source, one.codes, font.kind, _NUMBERS)
     with refusing(font.path):
         cut = fontcut.cut(source, one.codes, kind=font.kind, gids=_drawn(font, one))
     if font.is_fitted:
