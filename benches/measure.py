@@ -5,14 +5,14 @@ import sys
 import time
 from typing import Iterable, NamedTuple, Optional, Sequence
 
-from checks import BABELSTONE, DEJAVU, FREEFONT, HANAZONO, LIBERATION, PROGRAM, check, end, read, run, skip
+from checks import (BABELSTONE, DEJAVU, FREEFONT, HANAZONO, LIBERATION, PROGRAM, VLGOTHIC, check, end, read, run,
+                    skip)
 from font_reading import table, u16
 from join_timing import COUNTS, SOURCE, Joined, cuts_to_join, time_join
 from timing import (BENCHES, IDEOGRAPHS, LIB, Called, Timed, calls_in_turn, compiled, compiled_calls, in_turn,
                     put_ranges)
 
 OXYGEN = "/usr/share/fonts/truetype/oxygen"  # Debian's package fonts-oxygen
-VLGOTHIC = "/usr/share/fonts/truetype/vlgothic"  # Debian's package fonts-vlgothic
 IPAFONT = "/usr/share/fonts/opentype/ipafont-gothic"  # Debian's package fonts-ipafont-gothic
 
 PATHS = (f"{OXYGEN}/Oxygen-Sans.ttf", f"{FREEFONT}/FreeMonoBold.ttf", f"{LIBERATION}/LiberationSans-Regular.ttf",

@@ -6,9 +6,9 @@ import shutil
 import sys
 from typing import Iterator, NamedTuple, Optional, Sequence
 
-from checks import DEJAVU, FONTCUT_WEB, INTER, LIBERATION, NOTO, PYTHON, put, run, skip
+from checks import DEJAVU, FONTCUT_WEB, INTER, LIBERATION, NOTO, PYTHON, VLGOTHIC, put, run, skip
 from fontcut import needed
-from measure import DEBIAN_PYTHON, HB_SUBSET, VLGOTHIC, need
+from measure import DEBIAN_PYTHON, HB_SUBSET, need
 from pages import length_of
 from shaping import shaped
 from shaping_texts import TEXTS

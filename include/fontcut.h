@@ -15,9 +15,11 @@
  * The layout cut of a font for a text, where `room` bytes at `out` are enough for it:
  *
  *     fontcut_range ranges[64];
+ *     uint16_t glyphs[64];
  *     fontcut_answer needed = fontcut_needed(text, text_length, ranges, 64);
- *     fontcut_request request = {sizeof request, FONTCUT_LAYOUT, FONTCUT_CLOSES, ranges, needed.size, NULL, 0};
- *     fontcut_answer cut = fontcut_subset(&request, font, font_length, out, room);
+ *     fontcut_answer drawn = fontcut_variants(0, font, font_length, text, text_length, glyphs, 64);
+ *     fontcut_request asked = {sizeof asked, FONTCUT_LAYOUT, FONTCUT_CLOSES, ranges, needed.size, glyphs, drawn.size};
+ *     fontcut_answer cut = fontcut_subset(&asked, font, font_length, out, room);
  *     if (cut.status == FONTCUT_DONE) fwrite(out, 1, cut.size, stdout);
  *
  * FONTCUT_SMALL_ROOM says in `size` how much room a call needs: ask with a room of 0, and then again. */
@@ -75,7 +77,7 @@ typedef struct fontcut_losses {
     uint32_t first_missing, first_unshaped; /* the first of these characters, and the first one of these scripts */
     uint32_t axes, colours;      /* how many axes it has, if the cut has none; and the tag of the first table with
                                   * colours, which cuts drop */
-    uint32_t sequence, selector; /* a wanted variation sequence of it, which cuts drop: its character and selector */
+    uint32_t sequence, selector; /* the character and selector of a wanted variation sequence, if the cut has none */
 } fontcut_losses;
 
 /* A flag of a request: layout and variable cuts also have each glyph that GSUB may put for the wanted ones, in any
@@ -205,10 +207,11 @@ fontcut_answer fontcut_lost(const fontcut_request *request, const uint8_t *font,
                             fontcut_losses *losses);
 
 /* Writes the glyphs that a file keeps as a cut of a fontcut_kind to the front of `out`, ascending: .notdef, the glyphs
- * of its characters, in all but full cuts those that have an outline, metrics of their own or, for FONTCUT_VARIABLE,
- * variation data, and what these are made of; size: how many they are. A file that is a cut is that of its font for
- * these, without FONTCUT_CLOSES, and for the codes that fontcut_codes writes. `room` is in glyphs. Statuses: 101; those
- * of fontcut_check, then for FONTCUT_LAYOUT 5 and 6, and for FONTCUT_VARIABLE 5, 6 and 28; 16, 100. */
+ * of its characters, in all but full cuts those that have an outline, metrics of their own, for FONTCUT_LAYOUT and
+ * FONTCUT_VARIABLE variation sequences or, for FONTCUT_VARIABLE, variation data, and what these are made of; size: how
+ * many they are. A file that is a cut is that of its font for these, without FONTCUT_CLOSES, and for the codes that
+ * fontcut_codes writes. `room` is in glyphs. Statuses: 101; those of fontcut_check, then for FONTCUT_LAYOUT 5 and 6, and
+ * for FONTCUT_VARIABLE 5, 6 and 28; 16, 100. */
 fontcut_answer fontcut_kept(uint32_t kind, const uint8_t *font, size_t font_length, uint16_t *out, size_t room);
 
 /* Says whether a font is a cut of a fontcut_kind, and in which form; detail: FONTCUT_CURRENT_CUT or one of the other
@@ -228,9 +231,9 @@ fontcut_answer fontcut_belongs(uint32_t kind, const uint8_t *cut, size_t cut_len
  * may come in either form; the join is written in the current one. Statuses: 101; 24; of the first file that is
  * refused, with its index as step, those of fontcut_check, for FONTCUT_LAYOUT 5 and 6, for FONTCUT_VARIABLE 5, 6 and
  * 28, then 20, 21 to 23 where it differs from the join of the files before it, 29 where the parts of both do not fit in
- * a table, which no kind of today meets, and 18 where the join with it is too large; 16, with the index of the file that
- * was being joined as step; 100. But for 1, 16, 18, 24 and those from 100 on, a refusal means that no file has all as
- * cuts. */
+ * a table, as where a variation sequence has two glyphs, and 18 where the join with it is too large; 16, with the index
+ * of the file that was being joined as step; 100. But for 1, 16, 18, 24 and those from 100 on, a refusal means that no
+ * file has all as cuts. */
 fontcut_answer fontcut_join(uint32_t kind, const fontcut_bytes *files, size_t file_count, uint8_t *out, size_t room);
 
 /* Writes the codes that a font maps to the front of `out`, as the least number of ranges, in ascending order;
@@ -258,9 +261,17 @@ fontcut_answer fontcut_info(const uint8_t *font, size_t font_length, fontcut_fon
  * `fontcut subset --text` keeps the same for layout and variable cuts. `room` is in ranges. Statuses: 106, 16, 100. */
 fontcut_answer fontcut_needed(const uint8_t *text, size_t text_length, fontcut_range *out, size_t room);
 
-/* Writes the codes that the words of a list in UTF-8 name to the front of `out`, in the same form, as `fontcut subset
- * --codes-file` reads a list: `U+41`, `41-5A`, `U+4??`, `all`, with blanks, line ends, commas or semicolons between
- * them. `room` is in ranges. Statuses: 106, 16, 100. */
+/* Writes the glyphs that a font has for the variation sequences of a text in UTF-8 to the front of `out`, ascending;
+ * size: how many they are. A sequence is a character and the selector that follows it at once (cmap, format 14). Layout
+ * and variable cuts keep the sequences of glyphs that they keep: ask them for these by number, as `fontcut subset
+ * --text` does. `flags` is FONTCUT_CHECKED or 0, and `room` is in glyphs. Statuses: 105; those of fontcut_check, 106,
+ * 16, 100. */
+fontcut_answer fontcut_variants(uint32_t flags, const uint8_t *font, size_t font_length, const uint8_t *text,
+                                size_t text_length, uint16_t *out, size_t room);
+
+/* Writes the codes that the words of a list in UTF-8 name to the front of `out`, in the form of fontcut_needed, as
+ * `fontcut subset --codes-file` reads a list: `U+41`, `41-5A`, `U+4??`, `all`, with blanks, line ends, commas or
+ * semicolons between them. Words for sequences are refused. `room` is in ranges. Statuses: 106, 16, 100. */
 fontcut_answer fontcut_ranges(const uint8_t *list, size_t list_length, fontcut_range *out, size_t room);
 
 /* Writes the text of a refusal that a call has answered to the front of `out`, as FORMAT.md lists it: in UTF-8, with

@@ -5,11 +5,11 @@ import { chmodSync, closeSync, existsSync, lstatSync, mkdirSync, openSync, readF
     renameSync, rmSync, statSync, writeFileSync, writeSync } from 'node:fs';
 import { basename, dirname, join as pathOf, resolve } from 'node:path';
 import { parseArgs } from 'node:util';
-import { belongs, check, codes, cuts, cutForm, FontcutError, glyphs, init, initTexts, join, metrics, needed, ranges,
-    subset, version } from './fontcut.js';
+import { belongs, check, codes, cuts, cutForm, Font, FontcutError, glyphs, init, initTexts, join, metrics, needed,
+    ranges, subset, variants, version } from './fontcut.js';
 import { linesOfJoin } from './joined.js';
-import { KINDS, LAYOUT_TABLES, NO_GLYPH, NO_MEMORY, SHAPED, charactersOf, codesIn, kindWhere, rangeWord, shared }
-    from './kinds.js';
+import { KINDS, LAYOUT_TABLES, NO_GLYPH, NO_MEMORY, SHAPED, charactersOf, codesIn, isSelector, kindWhere, rangeWord,
+    shared } from './kinds.js';
 import { formatOf, lossesOf, recordsOf } from './losses.js';
 import { slices } from './slices.js';
 import { woff2 } from './woff2.js';
@@ -37,7 +37,8 @@ written.
 const FLAG = { type: 'boolean' }, LIST = { type: 'string', multiple: true };
 const KIND_FLAGS = { lean: FLAG, layout: FLAG, variable: FLAG };
 // Options of the program that no command has here.
-const OF_PROGRAM = ['verbose', 'complete', 'exclude', 'exclude-file', 'gids-file', 'report', 'strict', 'drop', 'help'];
+const OF_PROGRAM = ['verbose', 'complete', 'exclude', 'exclude-file', 'gids-file', 'report', 'strict', 'drop',
+    'sequences', 'help'];
 const COMMANDS = {
     subset: {
         run: runSubset, options: {
@@ -155,9 +156,40 @@ function codesOfTexts(texts, brings) {
     return texts.flatMap((one) => charactersOf(codesOf(one)));
 }
 
-// The lists of codes of a line, each with its ranges and with what names it.
+// A word of a list for a variation sequence, a character and its selector.
+const SEQUENCE = /(?<![^\s,;])U\+([0-9A-F]{1,6})\+([0-9A-F]{1,6})(?![^\s,;#])/gi;
+
+// The sequences of a list, as texts, and its ranges, among which their characters are. A word of no sequence is bad.
+function namedBy(list) {
+    const sequences = [];
+    const plain = list.replace(/#[^\n]*/g, '').replace(SEQUENCE, (word, ...named) => {
+        const [code, selector] = named.slice(0, 2).map((one) => Number.parseInt(one, 16));
+        if (code > 0x10FFFF || !isSelector(selector)) {
+            return word;
+        }
+        // A surrogate is no character of a text.
+        sequences.push(...code >> 11 === 0x1B ? [] : [String.fromCodePoint(code, selector)]);
+        return `U+${named[0]}`;
+    });
+    return { ranges: ranges(plain), sequences };
+}
+
+// The glyphs of sequences and of those of texts, each by itself, in cuts that keep sequences.
+function drawnIn(font, kind, texts, sequences) {
+    const all = SHAPED.includes(kind) ? [...texts, ...sequences.length ? [sequences.join('')] : []] : [];
+    return all.flatMap((one) => [...variants(font, one)]);
+}
+
+// Those of some sequences that a font lacks.
+function lackingOf(data, sequences) {
+    const font = sequences.length ? new Font(data) : undefined;
+    return [...new Set(sequences)].filter((one) => !variants(font, one).length);
+}
+
+// The lists of codes of a line, each with its ranges, its sequences and with what names it.
 function listsOf(given, words) {
-    const bad = words.find((word) => !/^(all|everything|U\+[0-9A-F]{1,6}(-(U\+)?[0-9A-F]{1,6})?)$/i.test(word));
+    const known = /^(all|everything|U\+[0-9A-F]{1,6}((-(U\+)?|\+)[0-9A-F]{1,6})?)$/i;
+    const bad = words.find((word) => !known.test(word));
     if (bad !== undefined) {
         throw new Failed(2, `bad word ${bad}: write U+41, U+41-5A or all, and texts with --text`);
     }
@@ -165,7 +197,7 @@ function listsOf(given, words) {
     // Only in a file can a line have the columns of `codes --glyphs`, which have blanks between them.
     const lists = (given.unicodes ?? []).map((list) => ['--unicodes', list.replaceAll(' ', ',')]);
     const every = [...words.map((word) => ['', word === 'everything' ? 'all' : word]), ...lists, ...files];
-    return every.map(([option, list]) => ({ option, ranges: ranges(list) }));
+    return every.map(([option, list]) => ({ option, ...namedBy(list) }));
 }
 
 // Glyph numbers of lists, such as 5,7-9,0x1F.
@@ -203,14 +235,19 @@ function runSubset(given, [font, out, ...words]) {
     } else {
         keepItself(given, out, font, data);
     }
-    writeFont(out, refusing(given, font, data, () =>
-        cutOf(data, { unicodes, gids, kind, layoutClosure: !given['no-layout-closure'] })));
+    const sequences = SHAPED.includes(kind) ? lists.flatMap((one) => one.sequences) : [];
+    const drawn = () => drawnIn(data, kind, texts.map((one) => one.text), sequences);
+    writeFont(out, refusing(given, font, data, () => cutOf(data,
+        { unicodes, gids: isAll ? gids : [...gids, ...drawn()], kind, layoutClosure: !given['no-layout-closure'] })));
     if (!given.quiet) {
         const asked = { wanted: pairsOf(unicodes), named: pairsOf([...own, ...listed]), texts: pairsOf(own),
-            hasGlyphs: isAll || Boolean(given.gids) };
+            hasGlyphs: isAll || Boolean(given.gids),
+            lacking: lackingOf(data, sequences) };
         const paths = (given.text ?? []).filter((one) => one !== '-' && isFile(one)).map((path) =>
             `${shownName(path)} is a file: --text keeps the characters of its path, --text-file those in it`);
-        say([...emptyOf(given, texts, lists), ...paths, ...lossesOf(shownName(font), data, kind, asked)]);
+        const none = !SHAPED.includes(kind) && lists.some((one) => one.sequences.length)
+            ? ['full and lean cuts have no variation sequences: add --layout'] : [];
+        say([...emptyOf(given, texts, lists), ...none, ...paths, ...lossesOf(shownName(font), data, kind, asked)]);
     }
 }
 
@@ -252,7 +289,8 @@ function refusing(given, path, data, work) {
 
 const writeFont = (out, data) => write(out, /\.woff2$/i.test(out) ? woff2(data) : data);
 
-// The slices of a file: in each line a name and ranges. Each has the ranges of characters that the font maps.
+// The slices of a file: in each line a name and ranges, and sequences. Each has the ranges of characters that the font
+// maps.
 function slicesOfFile(path, font) {
     const mapped = codes(font), lines = text(read(path), path).replace(/^\uFEFF/, '').split('\n');
     return lines.flatMap((line, i) => {
@@ -260,8 +298,9 @@ function slicesOfFile(path, font) {
         if (name && !/^[A-Za-z0-9][A-Za-z0-9._-]*$/.test(name)) {
             throw new Failed(2, `${path}: line ${i + 1}: bad name ${name.slice(0, 40)}`);
         }
-        const unicodes = name ? shared(mapped, ranges(list)).map((range) => rangeWord(range, 'U+')).join(', ') : '';
-        return name ? [{ name, unicodes }] : [];
+        const { ranges: listed, sequences } = namedBy(name ? list : '');
+        const unicodes = shared(mapped, listed).map((range) => rangeWord(range, 'U+')).join(', ');
+        return name ? [{ name, unicodes, sequences }] : [];
     });
 }
 
@@ -311,7 +350,11 @@ async function runSlice(given, [path, folder, ...more]) {
             throw new Failed(2, `${out} is a file already, and no cut: --force replaces it`);
         }
     }
-    const made = refusing(given, path, font, () => cuts(font, wanted, { kind, quiet: true }));
+    const made = refusing(given, path, font, () => {
+        const sets = wanted.map(({ unicodes, sequences = [] }) =>
+            ({ unicodes, gids: drawnIn(font, kind, [], sequences) }));
+        return cuts(font, sets, { kind, quiet: true });
+    });
     wanted.forEach((one, i) => {
         write(outs[i], made[i]);
         const packed = outs[i].replace(/ttf$/, 'woff2');

@@ -13,7 +13,7 @@
 // Each call copies what it reads into a module's memory, and frees all that it took when it returns or throws.
 
 import { DIFFERENCES, FontcutError, KINDS, NOT_A_CUT, NO_GLYPH, NO_MEMORY, SHAPED, SMALL_ROOM, charactersOf, kindWhere,
-    merged, pairsIn, rangeWord } from './kinds.js';
+    merged, pairsIn, rangeWord, sequencesIn } from './kinds.js';
 import { Areas, Module, bytesOf, tagOf } from './module.js';
 import { initTexts, needed, ranges, rangesNeeded, texts } from './texts.js';
 
@@ -134,9 +134,15 @@ function gidsOf(font, { gids = [] }) {
 // The flags of cuts of a font, which keep what GSUB may put if nothing else is said.
 const flagsOf = (font, { layoutClosure = true } = {}) => flagOf(font) | (layoutClosure ? CLOSES : 0);
 
+// The glyphs of the variation sequences of a text, in cuts that keep sequences. For a text without any the font is not
+// tested twice.
+const variantsFor = (font, text, kind) =>
+    WITH_LINKS.includes(kind) && sequencesIn(text ?? '').length ? Array.from(variants(font, text)) : [];
+
 // What is wanted of a font, as the ranges and the glyphs of a request.
 function wantedOf(font, wanted, { kind, exactly }) {
-    return { ranges: rangesOf(wanted, { kind, exactly }), gids: gidsOf(font, wanted) };
+    const gids = [...gidsOf(font, wanted), ...variantsFor(font, wanted.text, kind)];
+    return { ranges: rangesOf(wanted, { kind, exactly }), gids };
 }
 
 // A request of a font with the options of its cut: its address, the file, and what is wanted.
@@ -336,6 +342,15 @@ export function glyphs(font, wanted) {
         const [file, list] = [areas.file(font), areas.numbers(Uint32Array, known)];
         return areas.written(known.length, 2, (...room) =>
             areas.answer('glyphs', flagOf(font), ...file, ...list, ...room));
+    }).buffer);
+}
+
+/** The glyphs that a font has for the variation sequences of a text, ascending. */
+export function variants(font, text) {
+    charactersOf(text);
+    return new Uint16Array(within((areas) => {
+        const [file, data] = [areas.file(font), areas.copy(new TextEncoder().encode(text))];
+        return areas.written(64, 2, (...room) => areas.answer('variants', flagOf(font), ...file, ...data, ...room));
     }).buffer);
 }
 

@@ -1,7 +1,7 @@
 import type { Kind } from './fontcut.js';
 
 export interface GrowingOptions {
-    /** 'lean' by default. One of the kind 'layout' or 'variable' grows by all that a text needs. */
+    /** 'lean' by default. One of the kind 'layout' or 'variable' grows by all that a text needs, and its sequences. */
     kind?: Kind;
     /** Those of FontFace: weight, style and the like. A variable font has ranges in them: `{ weight: '100 900' }`. */
     descriptors?: FontFaceDescriptors;

@@ -6,19 +6,20 @@
 //     await font.add('漢字');                  // fetches a cut for what is missing, and joins it to what is there
 //
 // The server answers `?unicodes=6F22,5B57&kind=lean` with the lean cut for these code points, as examples/server does,
-// and with the layout cut or the variable cut if that is the kind. These two grow by all characters that a text needs.
+// and with the layout cut or the variable cut if that is the kind. These two grow by all characters that a text needs,
+// and by its variation sequences, which are asked for by `text`.
 import { init, initTexts, join } from './fontcut.js';
-import { KINDS, SHAPED, charactersOf, codesIn, rangeWords } from './kinds.js';
+import { KINDS, SHAPED, charactersOf, codesIn, rangeWords, sequencesIn } from './kinds.js';
 import { rangesNeeded } from './texts.js';
 
-const MOST_RANGES = 500; // of one request, so that its query stays below 8,000 characters
+const MOST_RANGES = 500, MOST_SEQUENCES = 60; // of one request, so that its query stays below 8,000 characters
 
 export class GrowingFont {
     #family;
     #url;
     #kind;
     #descriptors;
-    #known = new Set(); // the code points that were asked for
+    #known = new Set(); // the code points and the variation sequences that were asked for
     #bytes;
     #face;
     #last = Promise.resolve();
@@ -56,28 +57,30 @@ export class GrowingFont {
         }
         const codes = isShaped ? codesIn(rangesNeeded(own)) : [...new Set(charactersOf(own))];
         const missing = codes.filter((code) => !this.#known.has(code));
-        if (!missing.length) {
+        const sequences = isShaped ? sequencesIn(own).filter((one) => !this.#known.has(one)) : [];
+        if (!missing.length && !sequences.length) {
             return;
         }
-        const [parts] = await Promise.all([this.#fetched(rangeWords(missing)), init()]);
+        const [parts] = await Promise.all([this.#fetched(rangeWords(missing), sequences), init()]);
         // A single part is joined too, so that what is no cut is refused. Cuts of another font are refused by the join.
         const bytes = join(this.#bytes ? [this.#bytes, ...parts] : parts, { kind: this.#kind });
         await this.#show(bytes);
         this.#bytes = bytes;
-        missing.forEach((code) => this.#known.add(code));
+        [...missing, ...sequences].forEach((one) => this.#known.add(one));
     }
 
-    #fetched(words) {
-        const requests = [];
-        for (let at = 0; at < words.length; at += MOST_RANGES) {
-            requests.push(this.#fetchedOne(words.slice(at, at + MOST_RANGES)));
-        }
-        return Promise.all(requests);
+    #fetched(words, sequences) {
+        const count = Math.ceil(Math.max(words.length / MOST_RANGES, sequences.length / MOST_SEQUENCES));
+        return Promise.all(Array.from({ length: count }, (_, i) => this.#fetchedOne(
+            words.slice(MOST_RANGES * i, MOST_RANGES * (i + 1)),
+            sequences.slice(MOST_SEQUENCES * i, MOST_SEQUENCES * (i + 1)))));
     }
 
-    async #fetchedOne(words) {
-        const query = `unicodes=${words.join(',')}${this.#kind === 'full' ? '' : `&kind=${this.#kind}`}`;
-        const url = `${this.#url}${this.#url.includes('?') ? '&' : '?'}${query}`;
+    async #fetchedOne(words, sequences) {
+        const asked = [...words.length ? [`unicodes=${words.join(',')}`] : [],
+            ...sequences.length ? [`text=${encodeURIComponent(sequences.join(''))}`] : [],
+            ...this.#kind === 'full' ? [] : [`kind=${this.#kind}`]];
+        const url = `${this.#url}${this.#url.includes('?') ? '&' : '?'}${asked.join('&')}`;
         const answer = await fetch(url);
         if (!answer.ok) {
             throw new Error(`fontcut: ${url} answers ${answer.status}`);

@@ -11,8 +11,10 @@ const MADE = {
     layout: 'other cuts have no layout tables: cut the font anew by subset --layout',
     variable: 'other cuts have no variations: cut the font anew by subset --variable',
 };
-// What the cmap of a cut begins with, in the current form and in the first one. docs/FORMAT.md.
-const CMAPS = ['000000020000000400000014' + '0003000a00000014000c0000', '000000010003000a0000000c000c0000'];
+// What the cmap of a cut begins with, in the current form, without and with variation sequences, and in the first one.
+// docs/FORMAT.md.
+const CMAPS = [/^0000000200000004000000140003000a00000014000c0000/,
+    /^00000003000000040000001c00000005.{8}0003000a0000001c000c0000/, /^000000010003000a0000000c000c0000/];
 const TWO_WAYS = 'these are cuts of two fonts, or of one that was prepared, or cut with --drop, in two ways';
 
 const hasForm = (file, kind) => kindWhere((one) => cutForm(file, { kind: one }) !== 'none', [kind]) !== undefined;
@@ -77,7 +79,7 @@ function different(joined, refused, first, tag) {
 // Of a font that is no cut of any kind: one that has the cmap of a cut was changed.
 function noCut(joined, name, data) {
     const file = Buffer.from(data), record = recordsOf(file).get('cmap'), at = file.readUInt32BE(record + 8);
-    const isFont = !CMAPS.some((begin) => file.toString('hex', at, at + begin.length / 2) === begin);
+    const isFont = !CMAPS.some((begin) => begin.test(file.toString('hex', at, at + 32)));
     const otherwise = joined === 'full' ? 'no cut as fontcut writes it' : `no ${joined} cut`;
     return [`${name}: ${isFont ? 'a font, and no cut of one' : otherwise}`];
 }

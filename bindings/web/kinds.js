@@ -70,6 +70,15 @@ export function charactersOf(text) {
 export const pairsIn = (numbers) =>
     Array.from({ length: numbers.length / 2 }, (_, i) => [numbers[2 * i], numbers[2 * i + 1]]);
 
+const SELECTORS = '\\u180B-\\u180D\\u180F\\uFE00-\\uFE0F\\u{E0100}-\\u{E01EF}';
+const SELECTOR = new RegExp(`^[${SELECTORS}]$`, 'u'), SEQUENCE = new RegExp(`[^${SELECTORS}][${SELECTORS}]`, 'gu');
+
+/** Whether a code point is a selector of variation sequences. */
+export const isSelector = (code) => code <= 0x10FFFF && SELECTOR.test(String.fromCodePoint(code));
+
+/** The variation sequences of a text: each is a character and the selector that follows it. */
+export const sequencesIn = (text) => [...new Set(String(text).match(SEQUENCE))];
+
 /** The code points of ranges. */
 export const codesIn = (ranges) => ranges.flatMap(([first, last]) =>
     Array.from({ length: last - first + 1 }, (_, i) => first + i));

@@ -23,6 +23,8 @@ import fontcut
 LONGEST_QUERY = 8000
 FOREVER = ("Cache-Control", "public, max-age=31536000, immutable")
 KINDS = ("full", "lean", "layout", "variable")
+# Those of which the text is shaped: it needs more characters than its own, and glyphs of its variation sequences.
+SHAPED = ("layout", "variable")
 Range = Tuple[int, int]
 
 
@@ -61,16 +63,8 @@ def fonts_of(folder: str) -> Dict[str, Font]:
             if entry.is_file() and entry.name.endswith(".ttf") and entry.stat().st_size}
 
 
-def kind_of(asked: Dict[str, List[str]]) -> str:
-    """The kind of cut that a query asks for."""
-    kind = asked.get("kind", ["full"])[-1]
-    if kind not in KINDS:
-        raise Answer("400 Bad Request", "kind is full, lean, layout or variable")
-    return kind
-
-
-def wanted_by(query: str) -> Tuple[List[Range], str]:
-    """The set that a query asks for, and of which kind the cut is to be."""
+def wanted_by(query: str) -> Tuple[List[Range], List[str], str]:
+    """What a query asks for: code points, the texts that are to be shaped, and the kind of the cut."""
     if len(query) > LONGEST_QUERY:
         raise Answer("414 URI Too Long", f"a query has {LONGEST_QUERY} characters at most")
     try:
@@ -81,22 +75,22 @@ def wanted_by(query: str) -> Tuple[List[Range], str]:
         raise Answer("400 Bad Request", "bad query") from None
     if not asked.keys() <= {"unicodes", "text", "kind"} or not asked.keys() & {"unicodes", "text"}:
         raise Answer("400 Bad Request", "a query has unicodes or text, and may have kind")
-    kind = kind_of(asked)
+    kind, texts = asked.get("kind", ["full"])[-1], asked.get("text", [])
+    if kind not in KINDS:
+        raise Answer("400 Bad Request", "kind is full, lean, layout or variable")
     lists = [re.sub(r"(?<![^\s,;:-])([Uu]) (?=[0-9A-Fa-f?])", r"\1+", value) for value in asked.get("unicodes", ())]
-    texts = asked.get("text", ())
-    # Cuts of some kinds are there to be shaped, and a shaper takes more characters than those of the text.
-    letters = set("".join(map(fontcut.needed, texts) if kind in ("layout", "variable") else texts))
+    letters = set("".join(map(fontcut.needed, texts) if kind in SHAPED else texts))
     try:
         ranges = fontcut.ranges([*lists, *(f"U+{ord(letter):X}" for letter in letters)])
     except ValueError as error:
         raise Answer("400 Bad Request", str(error)) from None
-    return [(first, last) for first, last in ranges], kind
+    return [(first, last) for first, last in ranges], texts if kind in SHAPED else [], kind
 
 
-def made(font: Font, wanted: List[Range], kind: str) -> bytes:
+def made(font: Font, ranges: List[Range], gids: List[int], kind: str) -> bytes:
     """The cut."""
     try:
-        return fontcut.cut(font.data, wanted, kind=kind)
+        return fontcut.cut(font.data, ranges, kind=kind, gids=gids or None)
     except fontcut.Refused as refused:
         raise Answer("502 Bad Gateway", f"the cut is refused: {refused.text}") from None
     except MemoryError:
@@ -129,17 +123,18 @@ class Application:
         font = self.fonts.get(name)
         if font is None:
             raise Answer("404 Not Found", "there is no such font")
-        wanted, kind = wanted_by(environ.get("QUERY_STRING", ""))
+        ranges, texts, kind = wanted_by(environ.get("QUERY_STRING", ""))
         if font.refusal:
             raise Answer("502 Bad Gateway", f"the font is refused: {font.refusal}")
-        tag = '"' + hashlib.sha256(f"{font.digest} {kind} {wanted}".encode()).hexdigest() + '"'
+        gids = sorted({glyph for text in texts for glyph in fontcut.variants(font.data, text)})
+        tag = '"' + hashlib.sha256(f"{font.digest} {kind} {ranges} {gids}".encode()).hexdigest() + '"'
         headers = [FOREVER, ("Content-Type", "font/ttf"), ("Access-Control-Allow-Origin", "*"), *dictionaries.VARY]
         if tag in environ.get("HTTP_IF_NONE_MATCH", ""):
             return "304 Not Modified", [("ETag", tag), *headers], None
-        cut = made(font, wanted, kind)
+        cut = made(font, ranges, gids, kind)
         known = dictionaries.known_to(environ, font.data) if dictionaries.can_serve(cut) else None
         if known is None:
-            return "200 OK", [("ETag", tag), *headers, *dictionaries.offer(cut, name, wanted, kind)], cut
+            return "200 OK", [("ETag", tag), *headers, *dictionaries.offer(cut, name, ranges, gids, kind)], cut
         # A strong tag would say that these are the bytes of the cut.
         return "200 OK", [("ETag", f"W/{tag}"), *headers, ("Content-Encoding", "dcz")], dictionaries.packed(cut, known)
 

@@ -32,11 +32,11 @@ def can_serve(cut: bytes) -> bool:
     return CAN_PACK and len(cut) <= LONGEST
 
 
-def offer(cut: bytes, name: str, wanted: List[Tuple[int, int]], kind: str) -> List[Tuple[str, str]]:
+def offer(cut: bytes, name: str, wanted: List[Tuple[int, int]], gids: List[int], kind: str) -> List[Tuple[str, str]]:
     """What tells a browser to keep a cut as a dictionary for other answers of the font, if it may. It sends the
     identifier back with each request, and that says how the cut is made again: no worker has to keep it."""
     words = ",".join(f"{first:X}-{last:X}" if first < last else f"{first:X}" for first, last in wanted)
-    known = f"{kind} {words}"
+    known = " ".join([kind, words, *([",".join(map(str, gids))] if gids else [])])
     if len(known) > LONGEST_ID or not can_serve(cut):
         return []
     # A path without folders is one beside the answer's own, wherever the application is mounted.
@@ -46,12 +46,14 @@ def offer(cut: bytes, name: str, wanted: List[Tuple[int, int]], kind: str) -> Li
 def known_to(environ: Environ, font: fontcut.Bytes) -> Optional[bytes]:
     """The cut of a font that the browser has as a dictionary, or None where it has none that is made again as it is
     there."""
-    known = re.fullmatch(r'"(full|lean|layout|variable) ([0-9A-F,-]*)"', environ.get("HTTP_DICTIONARY_ID", ""))
+    known = re.fullmatch(r'"(full|lean|layout|variable) ([0-9A-F,-]*)(?: ([0-9,]+))?"',
+                         environ.get("HTTP_DICTIONARY_ID", ""))
     if not known or not re.search(r"(^|,)\s*dcz\s*(,|$)", environ.get("HTTP_ACCEPT_ENCODING", "")):
         return None
     try:
-        cut = fontcut.cut(font, fontcut.ranges([known[2]]), kind=known[1])
-    except (ValueError, MemoryError, fontcut.Refused):
+        gids = list(map(int, known[3].split(","))) if known[3] else None
+        cut = fontcut.cut(font, fontcut.ranges([known[2]]), kind=known[1], gids=gids)
+    except (ValueError, MemoryError, fontcut.FontcutError):
         return None
     digest = base64.b64encode(hashlib.sha256(cut).digest()).decode()
     return cut if environ.get("HTTP_AVAILABLE_DICTIONARY") == f":{digest}:" and can_serve(cut) else None

@@ -13,6 +13,7 @@ static const u8 table_38b7e81a[2] = ", ";
 static const u8 table_4d94eebf[3] = "|--";
 static const u8 table_4fc40c6e[1] = "{";
 static const u8 table_52092abc[1] = "}";
+static const _Alignas(4) u8 table_55ba7287[1] = {0};
 static const u8 table_5913621e[1] = "=";
 static const u8 table_6a0f77db[1] = " ";
 static const u8 table_6a565412[3] = "...";
@@ -43,7 +44,6 @@ static const u8 table_c23eecc7[4] = "[-- ";
 static const u8 table_c58554cc[1] = "-";
 static const u8 table_c99aee9b[2] = {58,10};
 static const u8 table_d08556bc[2] = "[=";
-static const _Alignas(2) u8 table_d0e67785[1] = {0};
 static const _Alignas(8) struct PACKED { const u8 *_0; u8 _1[8]; const u8 *_2; u8 _3[8]; const u8 *_4; u8 _5[8]; const u8 *_6; u8 _7[8]; const u8 *_8; u8 _9[8]; const u8 *_10; u8 _11[24]; } table_d29841e4 = {
 (u8 *)&table_d29841e4 + 96,
 {1},
@@ -6099,7 +6099,7 @@ v318:;
     flag v336 = v312 == 1;
     at(ptr, v13) = (u8 *)text_alias;
     at(u64, v13 + 8) = 6;
-    at(ptr, v13 + 16) = v336 ? (u8 *)table_d0e67785 : (u8 *)text_es;
+    at(ptr, v13 + 16) = v336 ? (u8 *)table_55ba7287 : (u8 *)text_es;
     at(u64, v13 + 24) = v336 ? 0 : 2;
     at(ptr, v13 + 32) = (u8 *)table_856cdd20;
     at(u64, v13 + 40) = 2;
@@ -6802,7 +6802,7 @@ v736:;
     flag v816 = v815 & 1;
     flag v835 = at(u8, (v599 + (i64)v603) + (i64)(v816 ? 40u : 16u)) == 1;
     flag v836 = at(u8, (v599 + (i64)v603) + (i64)(v816 ? 16u : 40u)) == 1;
-    u8 v841 = clap_output_help_Help_help(v0, 1, v599 + (i64)v603, v835 ? at(ptr_1, (v599 + (i64)v603) + (i64)(v816 ? 48u : 24u)) : (v836 ? at(ptr_1, (v599 + (i64)v603) + (i64)(v816 ? 24u : 48u)) : (u8 *)table_d0e67785), v835 ? at(u64_1, (v599 + (i64)v603) + (i64)(v816 ? 56u : 32u)) : (v836 ? at(u64_1, (v599 + (i64)v603) + (i64)(v816 ? 32u : 56u)) : 0), v610, v611, v460, v434);
+    u8 v841 = clap_output_help_Help_help(v0, 1, v599 + (i64)v603, v835 ? at(ptr_1, (v599 + (i64)v603) + (i64)(v816 ? 48u : 24u)) : (v836 ? at(ptr_1, (v599 + (i64)v603) + (i64)(v816 ? 24u : 48u)) : (u8 *)table_55ba7287), v835 ? at(u64_1, (v599 + (i64)v603) + (i64)(v816 ? 56u : 32u)) : (v836 ? at(u64_1, (v599 + (i64)v603) + (i64)(v816 ? 32u : 56u)) : 0), v610, v611, v460, v434);
     if (v612 == 0) goto v843;
     sys_rattle_dealloc(v610);
 v843:;
@@ -7501,7 +7501,7 @@ v1067:;
     flag v1138 = at(u8, v960 + (i64)v964 + 216) == 1;
     flag v1139 = at(u8, v960 + (i64)v964 + 240) == 1;
     flag v1146 = v973 == 0;
-    if (!(clap_output_help_Help_help(v28, 0, (u8 *)0, v1138 ? at(ptr_1, v960 + (i64)v964 + 224) : (v1139 ? at(ptr_1, v960 + (i64)v964 + 248) : (u8 *)table_d0e67785), v1138 ? at(u64_1, v960 + (i64)v964 + 232) : (v1139 ? at(u64_1, v960 + (i64)v964 + 256) : 0), v971, v972, v842, v843) & 1)) goto v1148;
+    if (!(clap_output_help_Help_help(v28, 0, (u8 *)0, v1138 ? at(ptr_1, v960 + (i64)v964 + 224) : (v1139 ? at(ptr_1, v960 + (i64)v964 + 248) : (u8 *)table_55ba7287), v1138 ? at(u64_1, v960 + (i64)v964 + 232) : (v1139 ? at(u64_1, v960 + (i64)v964 + 256) : 0), v971, v972, v842, v843) & 1)) goto v1148;
     if (v1146) goto v1150;
     sys_rattle_dealloc(v971);
 v1150:;
@@ -8142,7 +8142,7 @@ v160:;
     memset(v5 + 8, 0, 16u);
     switch (v291) {
     case 0: goto v294;
-    case 1: v296 = (u8 *)table_d0e67785; v297 = 0; goto v295;
+    case 1: v296 = (u8 *)table_55ba7287; v297 = 0; goto v295;
     default: goto v293;
     }
 v293:;

@@ -8,6 +8,7 @@ static const u8 table_01ad65c7[1] = {10};
 static const u8 table_0c2dcd46[8] = {10,10,32,32,116,105,112,58};
 static const u8 table_1ba82751[1] = "'";
 static const u8 table_38b7e81a[2] = ", ";
+static const _Alignas(4) u8 table_55ba7287[1] = {0};
 static const u8 table_6a0f77db[1] = " ";
 static const u8 table_7abae8b7[2] = "..";
 static const u8 table_7d3f0cad[2] = " '";
@@ -393,7 +394,6 @@ static const _Alignas(8) struct PACKED { const u8 *_0; u8 _1[16]; } table_b3194b
 {2,0,0,0,0,0,0,0,32,32}};
 static const u8 table_c58554cc[1] = "-";
 static const u8 table_cbcc78fa[4] = " -- ";
-static const _Alignas(2) u8 table_d0e67785[1] = {0};
 static const _Alignas(8) u8 table_d58c6058[160] = {1,0,0,0,0,0,0,0,10,0,0,0,0,0,0,0,100,0,0,0,0,0,0,0,232,3,0,0,0,0,0,0,16,39,0,0,0,0,0,0,160,134,1,0,0,
 0,0,0,64,66,15,0,0,0,0,0,128,150,152,0,0,0,0,0,0,225,245,5,0,0,0,0,0,202,154,59,0,0,0,0,0,228,11,84,2,
 0,0,0,0,232,118,72,23,0,0,0,0,16,165,212,232,0,0,0,0,160,114,78,24,9,0,0,0,64,122,16,243,90,0,0,0,128,
@@ -3832,7 +3832,7 @@ v105:;
     at(u64, v22) = v118;
     at(u64, v22 + 8) = v117;
     memcpy(v22 + 16, v19, 16u);
-    clap_error_Error_invalid_value(v21, v68, (u8 *)table_d0e67785, 0, v22, v88, v89);
+    clap_error_Error_invalid_value(v21, v68, (u8 *)table_55ba7287, 0, v22, v88, v89);
     u8 v123 = at(u8, v21 + 8);
     if (!(at(u8, v21) == 0)) goto v126;
     u8 v128 = at(u8, v21 + 16);
@@ -4506,7 +4506,7 @@ v304:;
     if ((v302 - v307) > 7) { v306 = v307; v309 = v310; goto v304; }
     v332 = v310; v333 = v307;
 v305:;
-    if (v333 < v302) { v337 = v333; v340 = v332; } else { v550 = v333; v551 = (u8 *)table_d0e67785; v552 = 0; v553 = 0; v554 = v333; v555 = v332; v556 = 0; goto v336; }
+    if (v333 < v302) { v337 = v333; v340 = v332; } else { v550 = v333; v551 = (u8 *)table_55ba7287; v552 = 0; v553 = 0; v554 = v333; v555 = v332; v556 = 0; goto v336; }
 v335:;
     u8 v343 = at(u8, (v3 + (i64)v300) + v337);
     u8 v344 = (u8)(v343 + 208u);
@@ -4514,7 +4514,7 @@ v335:;
     switch (v343) {
     case 46u: goto v350;
     case 101u: case 69u: goto v351;
-    default: v550 = v337; v551 = (u8 *)table_d0e67785; v552 = 0; v553 = 0; v554 = v337; v555 = v340; v556 = 0; goto v336;
+    default: v550 = v337; v551 = (u8 *)table_55ba7287; v552 = 0; v553 = 0; v554 = v337; v555 = v340; v556 = 0; goto v336;
     }
 v350:;
     u64 v394 = v337 + 1;
@@ -4591,8 +4591,8 @@ v351:;
     v358 = at(u8, (v3 + (i64)v300) + v352);
 v355:;
     u64 v363 = ((v358 == 45u) | (v358 == 43u)) ? (v337 + 2) : v352;
-    if (!(v363 < v302)) { v550 = v337; v551 = (u8 *)table_d0e67785; v552 = 0; v553 = 0; v554 = v337; v555 = v340; v556 = 0; goto v336; }
-    if ((v363 == 0) | (((u8)(at(u8, (v3 + (i64)v300) + v363) + 198u)) < 246u)) { v550 = v337; v551 = (u8 *)table_d0e67785; v552 = 0; v553 = 0; v554 = v337; v555 = v340; v556 = 0; goto v336; }
+    if (!(v363 < v302)) { v550 = v337; v551 = (u8 *)table_55ba7287; v552 = 0; v553 = 0; v554 = v337; v555 = v340; v556 = 0; goto v336; }
+    if ((v363 == 0) | (((u8)(at(u8, (v3 + (i64)v300) + v363) + 198u)) < 246u)) { v550 = v337; v551 = (u8 *)table_55ba7287; v552 = 0; v553 = 0; v554 = v337; v555 = v340; v556 = 0; goto v336; }
     v373 = v363; v376 = 0;
 v372:;
     u8 v380 = (u8)(at(u8, (v3 + (i64)v300) + v373) + 208u);
@@ -4602,13 +4602,13 @@ v372:;
     if (v374 < v302) { v373 = v374; v376 = v377; goto v372; }
     v388 = v377; v389 = v302;
 v382:;
-    if (!v353) { v550 = v337; v551 = (u8 *)table_d0e67785; v552 = 0; v553 = 0; v554 = v389; v555 = v340; v556 = v388; goto v336; }
-    v550 = v337; v551 = (u8 *)table_d0e67785; v552 = 0; v553 = at(u8, (v3 + (i64)v300) + v352) == 45u; v554 = v389; v555 = v340; v556 = v388; goto v336;
+    if (!v353) { v550 = v337; v551 = (u8 *)table_55ba7287; v552 = 0; v553 = 0; v554 = v389; v555 = v340; v556 = v388; goto v336; }
+    v550 = v337; v551 = (u8 *)table_55ba7287; v552 = 0; v553 = at(u8, (v3 + (i64)v300) + v352) == 45u; v554 = v389; v555 = v340; v556 = v388; goto v336;
 v339:;
     u64 v341 = (v340 * 10u) + ((u64)v344);
     u64 v338 = v337 + 1;
     if (v338 < v302) { v337 = v338; v340 = v341; goto v335; }
-    v550 = v302; v551 = (u8 *)table_d0e67785; v552 = 0; v553 = 0; v554 = v302; v555 = v341; v556 = 0;
+    v550 = v302; v551 = (u8 *)table_55ba7287; v552 = 0; v553 = 0; v554 = v302; v555 = v341; v556 = 0;
 v336:;
     if (!(v550 == ((u64)0 - v552))) goto v560;
     core_dec2flt_words_read_word(v43, v3 + (i64)v300, v302, v297);
@@ -4798,7 +4798,7 @@ v805:;
     goto v797;
 v790:;
     at(u64, v28) = 0;
-    clap_error_Error_invalid_value(v27, v787, (u8 *)table_d0e67785, 0, v28, v782, v784);
+    clap_error_Error_invalid_value(v27, v787, (u8 *)table_55ba7287, 0, v28, v782, v784);
     if (!(at(u8, v27) == 0)) goto v817;
     v1448 = v27 + 24; v1449 = at(u8, v27 + 8); v1450 = at(u8, v27 + 16); goto v811;
 v817:;
@@ -5526,7 +5526,7 @@ void clap_parser_parse_Parser_get_matches_with(u8 *v0, u8 *v1, u64 v2, u8 *v3, u
     if (!(v50 == 1)) goto v61;
     at(ptr, v11) = v8;
     memset(v11 + 8, 0, 120u);
-    if (!(clap_parser_matcher_ArgMatcher_start(v11, (u8 *)table_d0e67785, 0, 0, 1) & 1)) goto v66;
+    if (!(clap_parser_matcher_ArgMatcher_start(v11, (u8 *)table_55ba7287, 0, 0, 1) & 1)) goto v66;
     u8 *v74 = at(ptr, v11);
     u64 v75 = at(u64, v11 + 8);
     u64 v77 = at(u64, v11 + 16);
@@ -5571,7 +5571,7 @@ v73:;
     if (v71) goto v124;
     v131 = v72; v134 = v70; v136 = 0;
 v130:;
-    if (!core_cmp_bytes_equal(at(ptr_1, v131), at(u64_1, v131 + 8), (u8 *)table_d0e67785, 0)) goto v133;
+    if (!core_cmp_bytes_equal(at(ptr_1, v131), at(u64_1, v131 + 8), (u8 *)table_55ba7287, 0)) goto v133;
     u64 v144 = v136 * 104u;
     if (!(at(u8, v72 + (i64)v144 + 99) & 1)) goto v124;
     u64 v154 = at(u64, v72 + (i64)v144 + 56);
@@ -8843,7 +8843,7 @@ v29:;
     memset(v12, 0, 31u);
     flag v88 = at(u8, v69 + (i64)(v24 ? 192u : 168u)) == 1;
     flag v89 = at(u8, v69 + (i64)(v24 ? 168u : 192u)) == 1;
-    u8 *v91 = v88 ? at(ptr_1, v69 + (i64)(v24 ? 200u : 176u)) : (v89 ? at(ptr_1, v69 + (i64)(v24 ? 176u : 200u)) : (u8 *)table_d0e67785);
+    u8 *v91 = v88 ? at(ptr_1, v69 + (i64)(v24 ? 200u : 176u)) : (v89 ? at(ptr_1, v69 + (i64)(v24 ? 176u : 200u)) : (u8 *)table_55ba7287);
     u64 v92 = (u64)v91;
     u64 v94 = v88 ? at(u64_1, v69 + (i64)(v24 ? 208u : 184u)) : (v89 ? at(u64_1, v69 + (i64)(v24 ? 184u : 208u)) : 0);
     if (!(at(u8, v69 + 48) == 1)) goto v99;

@@ -4,6 +4,45 @@
 
 #include "program.h"
 
+static const _Alignas(8) struct PACKED { const u8 *_0; u8 _1[40]; const u8 *_2; u8 _3[8]; const u8 *_4; u8 _5[40]; const u8 *_6; u8 _7[8]; const u8 *_8; u8 _9[16]; const u8 *_10; u8 _11[16]; const u8 *_12; u8 _13[8]; const u8 *_14; u8 _15[40]; const u8 *_16; u8 _17[8]; const u8 *_18; u8 _19[40]; const u8 *_20; u8 _21[8]; const u8 *_22; u8 _23[40]; const u8 *_24; u8 _25[8]; const u8 *_26; u8 _27[16]; const u8 *_28; u8 _29[16]; const u8 *_30; u8 _31[8]; const u8 *_32; u8 _33[8]; const u8 *_34; u8 _35[8]; const u8 *_36; u8 _37[472]; } table_000a9ad1 = {
+(u8 *)&table_000a9ad1 + 496,
+{3},
+(u8 *)&table_000a9ad1 + 499,
+{61},
+(u8 *)&table_000a9ad1 + 560,
+{4},
+(u8 *)&table_000a9ad1 + 564,
+{71},
+(u8 *)&table_000a9ad1 + 635,
+{4,0,0,0,0,0,0,0,4},
+(u8 *)&table_000a9ad1 + 448,
+{3},
+(u8 *)&table_000a9ad1 + 657,
+{62},
+(u8 *)&table_000a9ad1 + 639,
+{4,0,0,0,0,0,0,0,3},
+(u8 *)&table_000a9ad1 + 719,
+{47},
+(u8 *)&table_000a9ad1 + 643,
+{6,0,0,0,0,0,0,0,5},
+(u8 *)&table_000a9ad1 + 766,
+{51},
+(u8 *)&table_000a9ad1 + 649,
+{8,0,0,0,0,0,0,0,5},
+(u8 *)&table_000a9ad1 + 817,
+{55},
+(u8 *)&table_000a9ad1 + 872,
+{4,0,0,0,0,0,0,0,10},
+(u8 *)&table_000a9ad1 + 876,
+{6},
+(u8 *)&table_000a9ad1 + 882,
+{77},
+(u8 *)&table_000a9ad1 + 639,
+{4},
+(u8 *)&table_000a9ad1 + 643,
+{6},
+(u8 *)&table_000a9ad1 + 649,
+"\010\000\000\000\000\000\000\000CUTThe path of a file that may be a cut, or - for standard inputFONTThe path of a font file with TrueType outlines, or - for standard inputfullleanlayoutvariableAsks for a full cut, as subset writes it without these optionsAsks for a lean cut, as subset --lean writes itAsks for a layout cut, as subset --layout writes itAsks for a variable cut, as subset --variable writes itdropTABLESCuts FONT without these layout tables; only GSUB adds glyphs; may be repeated\000"};
 static const u8 table_00334da7[1] = "*";
 static const u8 table_01ad65c7[1] = {10};
 static const _Alignas(8) struct PACKED { const u8 *_0; u8 _1[40]; const u8 *_2; u8 _3[8]; const u8 *_4; u8 _5[40]; const u8 *_6; u8 _7[8]; const u8 *_8; u8 _9[40]; const u8 *_10; u8 _11[8]; const u8 *_12; u8 _13[40]; const u8 *_14; u8 _15[8]; const u8 *_16; u8 _17[40]; const u8 *_18; u8 _19[8]; const u8 *_20; u8 _21[40]; const u8 *_22; u8 _23[8]; const u8 *_24; u8 _25[40]; const u8 *_26; u8 _27[8]; const u8 *_28; u8 _29[40]; const u8 *_30; u8 _31[8]; const u8 *_32; u8 _33[40]; const u8 *_34; u8 _35[8]; const u8 *_36; u8 _37[40]; const u8 *_38; u8 _39[8]; const u8 *_40; u8 _41[40]; const u8 *_42; u8 _43[8]; const u8 *_44; u8 _45[40]; const u8 *_46; u8 _47[8]; const u8 *_48; u8 _49[40]; const u8 *_50; u8 _51[8]; const u8 *_52; u8 _53[40]; const u8 *_54; u8 _55[8]; const u8 *_56; u8 _57[40]; const u8 *_58; u8 _59[8]; const u8 *_60; u8 _61[40]; const u8 *_62; u8 _63[8]; const u8 *_64; u8 _65[40]; const u8 *_66; u8 _67[8]; const u8 *_68; u8 _69[40]; const u8 *_70; u8 _71[8]; const u8 *_72; u8 _73[40]; const u8 *_74; u8 _75[328]; } table_05136ff6 = {
@@ -94,6 +133,111 @@ static const _Alignas(8) struct PACKED { const u8 *_0; u8 _1[8]; const u8 *_2; u
 {4},
 (u8 *)&table_054043a3 + 96,
 {4,0,0,0,0,0,0,0,66,65,83,69,71,68,69,70,71,80,79,83,71,83,85,66,107,101,114,110}};
+static const _Alignas(8) struct PACKED { const u8 *_0; u8 _1[40]; const u8 *_2; u8 _3[8]; const u8 *_4; u8 _5[40]; const u8 *_6; u8 _7[8]; const u8 *_8; u8 _9[16]; const u8 *_10; u8 _11[16]; const u8 *_12; u8 _13[8]; const u8 *_14; u8 _15[16]; const u8 *_16; u8 _17[16]; const u8 *_18; u8 _19[8]; const u8 *_20; u8 _21[40]; const u8 *_22; u8 _23[8]; const u8 *_24; u8 _25[16]; const u8 *_26; u8 _27[16]; const u8 *_28; u8 _29[8]; const u8 *_30; u8 _31[16]; const u8 *_32; u8 _33[16]; const u8 *_34; u8 _35[8]; const u8 *_36; u8 _37[16]; const u8 *_38; u8 _39[16]; const u8 *_40; u8 _41[8]; const u8 *_42; u8 _43[16]; const u8 *_44; u8 _45[16]; const u8 *_46; u8 _47[8]; const u8 *_48; u8 _49[16]; const u8 *_50; u8 _51[16]; const u8 *_52; u8 _53[8]; const u8 *_54; u8 _55[16]; const u8 *_56; u8 _57[16]; const u8 *_58; u8 _59[8]; const u8 *_60; u8 _61[16]; const u8 *_62; u8 _63[16]; const u8 *_64; u8 _65[8]; const u8 *_66; u8 _67[40]; const u8 *_68; u8 _69[8]; const u8 *_70; u8 _71[40]; const u8 *_72; u8 _73[8]; const u8 *_74; u8 _75[40]; const u8 *_76; u8 _77[8]; const u8 *_78; u8 _79[40]; const u8 *_80; u8 _81[8]; const u8 *_82; u8 _83[40]; const u8 *_84; u8 _85[8]; const u8 *_86; u8 _87[40]; const u8 *_88; u8 _89[8]; const u8 *_90; u8 _91[16]; const u8 *_92; u8 _93[16]; const u8 *_94; u8 _95[8]; const u8 *_96; u8 _97[40]; const u8 *_98; u8 _99[8]; const u8 *_100; u8 _101[40]; const u8 *_102; u8 _103[1872]; } table_1403bc36 = {
+(u8 *)&table_1403bc36 + 1344,
+{4},
+(u8 *)&table_1403bc36 + 1348,
+{71},
+(u8 *)&table_1403bc36 + 1419,
+{3},
+(u8 *)&table_1403bc36 + 1422,
+{46},
+(u8 *)&table_1403bc36 + 1468,
+{4,0,0,0,0,0,0,0,9},
+(u8 *)&table_1403bc36 + 1472,
+{4},
+(u8 *)&table_1403bc36 + 1476,
+{99},
+(u8 *)&table_1403bc36 + 1575,
+{9,0,0,0,0,0,0,0,8},
+(u8 *)&table_1403bc36 + 1584,
+{4},
+(u8 *)&table_1403bc36 + 1588,
+{74},
+(u8 *)&table_1403bc36 + 1662,
+{7,0,0,0,0,0,0,0,3},
+(u8 *)&table_1403bc36 + 1669,
+{93},
+(u8 *)&table_1403bc36 + 1762,
+{10,0,0,0,0,0,0,0,8},
+(u8 *)&table_1403bc36 + 1584,
+{4},
+(u8 *)&table_1403bc36 + 1772,
+{80},
+(u8 *)&table_1403bc36 + 1852,
+{8,0,0,0,0,0,0,0,8},
+(u8 *)&table_1403bc36 + 1860,
+{4},
+(u8 *)&table_1403bc36 + 1864,
+{88},
+(u8 *)&table_1403bc36 + 1952,
+{8,0,0,0,0,0,0,0,8},
+(u8 *)&table_1403bc36 + 1860,
+{4},
+(u8 *)&table_1403bc36 + 1960,
+{85},
+(u8 *)&table_1403bc36 + 2045,
+{7,0,0,0,0,0,0,0,8},
+(u8 *)&table_1403bc36 + 1860,
+{4},
+(u8 *)&table_1403bc36 + 2052,
+{45},
+(u8 *)&table_1403bc36 + 2097,
+{12,0,0,0,0,0,0,0,8},
+(u8 *)&table_1403bc36 + 1584,
+{4},
+(u8 *)&table_1403bc36 + 2109,
+{56},
+(u8 *)&table_1403bc36 + 2165,
+{4,0,0,0,0,0,0,0,8},
+(u8 *)&table_1403bc36 + 1860,
+{4},
+(u8 *)&table_1403bc36 + 2169,
+{90},
+(u8 *)&table_1403bc36 + 2259,
+{9,0,0,0,0,0,0,0,8},
+(u8 *)&table_1403bc36 + 1584,
+{4},
+(u8 *)&table_1403bc36 + 2268,
+{70},
+(u8 *)&table_1403bc36 + 2338,
+{6,0,0,0,0,0,0,0,3},
+(u8 *)&table_1403bc36 + 2344,
+{104},
+(u8 *)&table_1403bc36 + 2448,
+{6,0,0,0,0,0,0,0,3},
+(u8 *)&table_1403bc36 + 2454,
+{87},
+(u8 *)&table_1403bc36 + 2541,
+{4,0,0,0,0,0,0,0,3},
+(u8 *)&table_1403bc36 + 2545,
+{79},
+(u8 *)&table_1403bc36 + 2624,
+{6,0,0,0,0,0,0,0,5},
+(u8 *)&table_1403bc36 + 2630,
+{95},
+(u8 *)&table_1403bc36 + 2725,
+{8,0,0,0,0,0,0,0,5},
+(u8 *)&table_1403bc36 + 2733,
+{95},
+(u8 *)&table_1403bc36 + 2828,
+{17,0,0,0,0,0,0,0,3},
+(u8 *)&table_1403bc36 + 2845,
+{81},
+(u8 *)&table_1403bc36 + 2926,
+{4,0,0,0,0,0,0,0,10},
+(u8 *)&table_1403bc36 + 2930,
+{6},
+(u8 *)&table_1403bc36 + 2936,
+{77},
+(u8 *)&table_1403bc36 + 3013,
+{5,0,0,0,0,0,0,0,3},
+(u8 *)&table_1403bc36 + 3018,
+{92},
+(u8 *)&table_1403bc36 + 3110,
+{5,0,0,0,0,0,0,0,1},
+(u8 *)&table_1403bc36 + 3115,
+"V\000\000\000\000\000\000\000FONTThe path of a font file with TrueType outlines, or - for standard inputOUTThe path to write to, or - for standard outputtextTEXTKeeps the characters of TEXT, with --layout or --variable also those that it needs; may be repeatedtext-fileFILEThe same for a UTF-8 file, without its control characters; may be repeatedexactlyWith --layout or --variable, texts keep their own characters alone; else this changes nothingcodes-fileKeeps the codes of a file of lists in the form of --unicodes; # starts a commentunicodesLISTKeeps the codes of LIST: 41-5A,61,U+3B1,U+4\?\? or a unicode-range of CSS; may be repeatedcompleteKeeps the codes of LIST, and the canonical parts of their characters; may be repeatedexcludeLeaves out the codes of LIST; may be repeatedexclude-fileLeaves out the codes of a file of lists; may be repeatedgidsWith --lean, --layout or --variable, keeps the glyphs of LIST: 5,7-9,0x1F; may be repeatedgids-fileThe same for a file of such lists; # starts a comment; may be repeatedreportReports on standard error which wanted codes FONT lacks, what the cut drops, and which scripts need thatstrictWrites nothing, reports, and exits with 1 if FONT lacks a wanted code or none is wantedleanWrites the lean cut: no metrics of glyphs that are not kept, and no glyph nameslayoutWrites the layout cut: a lean one with GSUB, GPOS, GDEF, BASE, kern and the substitutes of GSUBvariableWrites the variable cut: a layout one with the variations (fvar, gvar ..), so it stays variableno-layout-closureWith --layout or --variable, keeps only what is named, and no substitutes of GSUBdropTABLESCuts FONT without these layout tables; only GSUB adds glyphs; may be repeatedforceWrites even to a name that ends in .woff2 or .woff, and over the font of which FONT is a cutWORDSWhat to keep: all, U+41, U+41-5A, U+845B+E0100; everything is all codes and all glyphs\000\000\000\000\000\000\000"};
 static const u8 table_167a1961[2] = {10,10};
 static const u8 table_1adb5948[3] = "'--";
 static const u8 table_1ba82751[1] = "'";
@@ -298,157 +442,30 @@ static const _Alignas(8) struct PACKED { const u8 *_0; u8 _1[8]; const u8 *_2; u
 {17},
 (u8 *)&table_392949d0 + 3805,
 "-\000\000\000\000\000\000\000--flavorOUT is a TrueType file; woff2_compress makes a WOFF2 file of it--with-zopfli--glyphsnothing: subset chooses glyphs by characters, and by their numbers with --gids--glyphs-file--recommended-glyphsnothing: a cut keeps glyph 0 and those that are asked for--keep-everythingall keeps each character, and everything each glyph--drop-tables--layout --drop TABLES leaves out layout tables; the others are fixed--drop-tables+--drop-tables---no-subset-tablesnothing: which tables a cut keeps is fixed; fontcut show lists them--passthrough-tables--hinting-tables--canonical-ordernothing: the order of the tables is fixed--no-canonical-order--layout-features--layout keeps all features; fontcut-web prepare makes fonts with fewer--layout-features+--layout-features---layout-scripts--layout keeps all scripts; fontcut-web prepare makes fonts with fewer--layout-scripts+--layout-scripts---layout-closure--layout keeps the layout tables whole, and the glyphs that GSUB puts--harfbuzz-repacker--legacy-kern--layout keeps the table kern, and --drop kern leaves it out--bidi-closure--text with --layout keeps the mirrored characters, too--variationsa cut has the default, with --variable all; fontcut-web prepare makes others--instance--no-hintingfontcut-web prepare --no-hinting makes a font without; a cut keeps it--set-overlaps-flagnothing: a cut keeps outlines and variation data as they are--optimize--recalc-boundsnothing: a cut keeps such values of its font--recalc-timestamp--recalc-average-width--recalc-max-context--prune-unicode-ranges--prune-codepage-ranges--desubroutinizenothing: fonts with CFF outlines are refused--legacy-cmapnothing: the cmap of a cut has one subtable, of format 12--symbol-cmap--glyph-namesnothing: full cuts alone keep the names of glyphs--no-glyph-names--lean leaves out the names of glyphs--name-IDsa cut keeps the table name; fontcut-web prepare makes fonts with few names--name-languages--name-legacy--obfuscate-names--font-numbernothing: collections are refused; fontTools takes a font out of one--face-index--batchnothing: subset makes one cut; fontcut slice makes several--xmlnothing: ttx of fontTools prints tables--font-fileFONT is the word after subset--no-bidi-closure--exactly keeps the characters of texts alone\000\000\000\000\000\000"};
-static const _Alignas(8) struct PACKED { const u8 *_0; u8 _1[40]; const u8 *_2; u8 _3[8]; const u8 *_4; u8 _5[40]; const u8 *_6; u8 _7[8]; const u8 *_8; u8 _9[16]; const u8 *_10; u8 _11[16]; const u8 *_12; u8 _13[8]; const u8 *_14; u8 _15[16]; const u8 *_16; u8 _17[16]; const u8 *_18; u8 _19[8]; const u8 *_20; u8 _21[40]; const u8 *_22; u8 _23[8]; const u8 *_24; u8 _25[16]; const u8 *_26; u8 _27[16]; const u8 *_28; u8 _29[8]; const u8 *_30; u8 _31[16]; const u8 *_32; u8 _33[16]; const u8 *_34; u8 _35[8]; const u8 *_36; u8 _37[16]; const u8 *_38; u8 _39[16]; const u8 *_40; u8 _41[8]; const u8 *_42; u8 _43[16]; const u8 *_44; u8 _45[16]; const u8 *_46; u8 _47[8]; const u8 *_48; u8 _49[16]; const u8 *_50; u8 _51[16]; const u8 *_52; u8 _53[8]; const u8 *_54; u8 _55[16]; const u8 *_56; u8 _57[16]; const u8 *_58; u8 _59[8]; const u8 *_60; u8 _61[16]; const u8 *_62; u8 _63[16]; const u8 *_64; u8 _65[8]; const u8 *_66; u8 _67[40]; const u8 *_68; u8 _69[8]; const u8 *_70; u8 _71[40]; const u8 *_72; u8 _73[8]; const u8 *_74; u8 _75[40]; const u8 *_76; u8 _77[8]; const u8 *_78; u8 _79[40]; const u8 *_80; u8 _81[8]; const u8 *_82; u8 _83[40]; const u8 *_84; u8 _85[8]; const u8 *_86; u8 _87[40]; const u8 *_88; u8 _89[8]; const u8 *_90; u8 _91[16]; const u8 *_92; u8 _93[16]; const u8 *_94; u8 _95[8]; const u8 *_96; u8 _97[40]; const u8 *_98; u8 _99[8]; const u8 *_100; u8 _101[40]; const u8 *_102; u8 _103[1864]; } table_6cadee51 = {
-(u8 *)&table_6cadee51 + 1344,
-{4},
-(u8 *)&table_6cadee51 + 1348,
-{71},
-(u8 *)&table_6cadee51 + 1419,
-{3},
-(u8 *)&table_6cadee51 + 1422,
-{46},
-(u8 *)&table_6cadee51 + 1468,
-{4,0,0,0,0,0,0,0,9},
-(u8 *)&table_6cadee51 + 1472,
-{4},
-(u8 *)&table_6cadee51 + 1476,
-{99},
-(u8 *)&table_6cadee51 + 1575,
-{9,0,0,0,0,0,0,0,8},
-(u8 *)&table_6cadee51 + 1584,
-{4},
-(u8 *)&table_6cadee51 + 1588,
-{74},
-(u8 *)&table_6cadee51 + 1662,
-{7,0,0,0,0,0,0,0,3},
-(u8 *)&table_6cadee51 + 1669,
-{93},
-(u8 *)&table_6cadee51 + 1762,
-{10,0,0,0,0,0,0,0,8},
-(u8 *)&table_6cadee51 + 1584,
-{4},
-(u8 *)&table_6cadee51 + 1772,
-{80},
-(u8 *)&table_6cadee51 + 1852,
-{8,0,0,0,0,0,0,0,8},
-(u8 *)&table_6cadee51 + 1860,
-{4},
-(u8 *)&table_6cadee51 + 1864,
-{88},
-(u8 *)&table_6cadee51 + 1952,
-{8,0,0,0,0,0,0,0,8},
-(u8 *)&table_6cadee51 + 1860,
-{4},
-(u8 *)&table_6cadee51 + 1960,
-{85},
-(u8 *)&table_6cadee51 + 2045,
-{7,0,0,0,0,0,0,0,8},
-(u8 *)&table_6cadee51 + 1860,
-{4},
-(u8 *)&table_6cadee51 + 2052,
-{45},
-(u8 *)&table_6cadee51 + 2097,
-{12,0,0,0,0,0,0,0,8},
-(u8 *)&table_6cadee51 + 1584,
-{4},
-(u8 *)&table_6cadee51 + 2109,
-{56},
-(u8 *)&table_6cadee51 + 2165,
-{4,0,0,0,0,0,0,0,8},
-(u8 *)&table_6cadee51 + 1860,
-{4},
-(u8 *)&table_6cadee51 + 2169,
-{90},
-(u8 *)&table_6cadee51 + 2259,
-{9,0,0,0,0,0,0,0,8},
-(u8 *)&table_6cadee51 + 1584,
-{4},
-(u8 *)&table_6cadee51 + 2268,
-{70},
-(u8 *)&table_6cadee51 + 2338,
-{6,0,0,0,0,0,0,0,3},
-(u8 *)&table_6cadee51 + 2344,
-{104},
-(u8 *)&table_6cadee51 + 2448,
-{6,0,0,0,0,0,0,0,3},
-(u8 *)&table_6cadee51 + 2454,
-{87},
-(u8 *)&table_6cadee51 + 2541,
-{4,0,0,0,0,0,0,0,3},
-(u8 *)&table_6cadee51 + 2545,
-{79},
-(u8 *)&table_6cadee51 + 2624,
-{6,0,0,0,0,0,0,0,5},
-(u8 *)&table_6cadee51 + 2630,
-{95},
-(u8 *)&table_6cadee51 + 2725,
-{8,0,0,0,0,0,0,0,5},
-(u8 *)&table_6cadee51 + 2733,
-{95},
-(u8 *)&table_6cadee51 + 2828,
-{17,0,0,0,0,0,0,0,3},
-(u8 *)&table_6cadee51 + 2845,
-{81},
-(u8 *)&table_6cadee51 + 2926,
-{4,0,0,0,0,0,0,0,10},
-(u8 *)&table_6cadee51 + 2930,
-{6},
-(u8 *)&table_6cadee51 + 2936,
-{77},
-(u8 *)&table_6cadee51 + 3013,
-{5,0,0,0,0,0,0,0,3},
-(u8 *)&table_6cadee51 + 3018,
-{92},
-(u8 *)&table_6cadee51 + 3110,
-{5,0,0,0,0,0,0,0,1},
-(u8 *)&table_6cadee51 + 3115,
-"S\000\000\000\000\000\000\000FONTThe path of a font file with TrueType outlines, or - for standard inputOUTThe path to write to, or - for standard outputtextTEXTKeeps the characters of TEXT, with --layout or --variable also those that it needs; may be repeatedtext-fileFILEThe same for a UTF-8 file, without its control characters; may be repeatedexactlyWith --layout or --variable, texts keep their own characters alone; else this changes nothingcodes-fileKeeps the codes of a file of lists in the form of --unicodes; # starts a commentunicodesLISTKeeps the codes of LIST: 41-5A,61,U+3B1,U+4\?\? or a unicode-range of CSS; may be repeatedcompleteKeeps the codes of LIST, and the canonical parts of their characters; may be repeatedexcludeLeaves out the codes of LIST; may be repeatedexclude-fileLeaves out the codes of a file of lists; may be repeatedgidsWith --lean, --layout or --variable, keeps the glyphs of LIST: 5,7-9,0x1F; may be repeatedgids-fileThe same for a file of such lists; # starts a comment; may be repeatedreportReports on standard error which wanted codes FONT lacks, what the cut drops, and which scripts need thatstrictWrites nothing, reports, and exits with 1 if FONT lacks a wanted code or none is wantedleanWrites the lean cut: no metrics of glyphs that are not kept, and no glyph nameslayoutWrites the layout cut: a lean one with GSUB, GPOS, GDEF, BASE, kern and the substitutes of GSUBvariableWrites the variable cut: a layout one with the variations (fvar, gvar ..), so it stays variableno-layout-closureWith --layout or --variable, keeps only what is named, and no substitutes of GSUBdropTABLESCuts FONT without these layout tables; only GSUB adds glyphs; may be repeatedforceWrites even to a name that ends in .woff2 or .woff, and over the font of which FONT is a cutWORDSRanges of codes to keep: all, U+41, U+41-5A; everything is all codes and all glyphs\000\000"};
+static const _Alignas(4) u8 table_55ba7287[1] = {0};
 static const u8 table_856cdd20[2] = ": ";
-static const _Alignas(8) struct PACKED { const u8 *_0; u8 _1[40]; const u8 *_2; u8 _3[8]; const u8 *_4; u8 _5[40]; const u8 *_6; u8 _7[184]; } table_8b68c673 = {
-(u8 *)&table_8b68c673 + 128,
+static const _Alignas(8) struct PACKED { const u8 *_0; u8 _1[40]; const u8 *_2; u8 _3[8]; const u8 *_4; u8 _5[40]; const u8 *_6; u8 _7[8]; const u8 *_8; u8 _9[16]; const u8 *_10; u8 _11[16]; const u8 *_12; u8 _13[8]; const u8 *_14; u8 _15[280]; } table_97032e90 = {
+(u8 *)&table_97032e90 + 208,
 {4},
-(u8 *)&table_8b68c673 + 132,
+(u8 *)&table_97032e90 + 212,
 {71},
-(u8 *)&table_8b68c673 + 203,
+(u8 *)&table_97032e90 + 283,
 {6,0,0,0,0,0,0,0,3},
-(u8 *)&table_8b68c673 + 209,
-"[\000\000\000\000\000\000\000FONTThe path of a font file with TrueType outlines, or - for standard inputglyphsPrints a line for each code: the code, its glyph number, and the advance width of the glyph\000\000\000\000"};
+(u8 *)&table_97032e90 + 289,
+{91},
+(u8 *)&table_97032e90 + 380,
+{9,0,0,0,0,0,0,0,4},
+(u8 *)&table_97032e90 + 192,
+{1},
+(u8 *)&table_97032e90 + 389,
+{91},
+(u8 *)&table_97032e90 + 283,
+"\006\000\000\000\000\000\000\000FONTThe path of a font file with TrueType outlines, or - for standard inputglyphsPrints a line for each code: the code, its glyph number, and the advance width of the glyphsequencesPrints the variation sequences of FONT instead, ascending, as lists take them: U+845B+E0100"};
 static const _Alignas(8) struct PACKED { const u8 *_0; u8 _1[40]; const u8 *_2; u8 _3[88]; } table_b31f2d2e = {
 (u8 *)&table_b31f2d2e + 64,
 {4},
 (u8 *)&table_b31f2d2e + 68,
 "G\000\000\000\000\000\000\000FONTThe path of a font file with TrueType outlines, or - for standard input\000\000\000\000\000"};
-static const _Alignas(8) struct PACKED { const u8 *_0; u8 _1[40]; const u8 *_2; u8 _3[8]; const u8 *_4; u8 _5[40]; const u8 *_6; u8 _7[8]; const u8 *_8; u8 _9[40]; const u8 *_10; u8 _11[8]; const u8 *_12; u8 _13[40]; const u8 *_14; u8 _15[8]; const u8 *_16; u8 _17[40]; const u8 *_18; u8 _19[8]; const u8 *_20; u8 _21[40]; const u8 *_22; u8 _23[8]; const u8 *_24; u8 _25[16]; const u8 *_26; u8 _27[16]; const u8 *_28; u8 _29[472]; } table_bef0af1d = {
-(u8 *)&table_bef0af1d + 448,
-{3},
-(u8 *)&table_bef0af1d + 451,
-{61},
-(u8 *)&table_bef0af1d + 512,
-{4},
-(u8 *)&table_bef0af1d + 516,
-{71},
-(u8 *)&table_bef0af1d + 587,
-{4,0,0,0,0,0,0,0,4},
-(u8 *)&table_bef0af1d + 591,
-{62},
-(u8 *)&table_bef0af1d + 653,
-{4,0,0,0,0,0,0,0,3},
-(u8 *)&table_bef0af1d + 657,
-{47},
-(u8 *)&table_bef0af1d + 704,
-{6,0,0,0,0,0,0,0,5},
-(u8 *)&table_bef0af1d + 710,
-{51},
-(u8 *)&table_bef0af1d + 761,
-{8,0,0,0,0,0,0,0,5},
-(u8 *)&table_bef0af1d + 769,
-{55},
-(u8 *)&table_bef0af1d + 824,
-{4,0,0,0,0,0,0,0,10},
-(u8 *)&table_bef0af1d + 828,
-{6},
-(u8 *)&table_bef0af1d + 834,
-"M\000\000\000\000\000\000\000CUTThe path of a file that may be a cut, or - for standard inputFONTThe path of a font file with TrueType outlines, or - for standard inputfullAsks for a full cut, as subset writes it without these optionsleanAsks for a lean cut, as subset --lean writes itlayoutAsks for a layout cut, as subset --layout writes itvariableAsks for a variable cut, as subset --variable writes itdropTABLESCuts FONT without these layout tables; only GSUB adds glyphs; may be repeated\000"};
 static const _Alignas(8) struct PACKED { const u8 *_0; u8 _1[8]; const u8 *_2; u8 _3[8]; const u8 *_4; u8 _5[8]; const u8 *_6; u8 _7[8]; const u8 *_8; u8 _9[8]; const u8 *_10; u8 _11[8]; const u8 *_12; u8 _13[8]; const u8 *_14; u8 _15[8]; const u8 *_16; u8 _17[8]; const u8 *_18; u8 _19[8]; const u8 *_20; u8 _21[8]; const u8 *_22; u8 _23[8]; const u8 *_24; u8 _25[8]; const u8 *_26; u8 _27[8]; const u8 *_28; u8 _29[8]; const u8 *_30; u8 _31[8]; const u8 *_32; u8 _33[8]; const u8 *_34; u8 _35[8]; const u8 *_36; u8 _37[8]; const u8 *_38; u8 _39[8]; const u8 *_40; u8 _41[8]; const u8 *_42; u8 _43[8]; const u8 *_44; u8 _45[8]; const u8 *_46; u8 _47[5184]; } table_c5b0fdf0 = {
 (u8 *)&table_c5b0fdf0 + 384,
 {5},
@@ -498,14 +515,6 @@ static const _Alignas(8) struct PACKED { const u8 *_0; u8 _1[8]; const u8 *_2; u
 {78},
 (u8 *)&table_c5b0fdf0 + 5450,
 "k\000\000\000\000\000\000\000checkChecks FONT: prints each finding, then whether it is acceptedExamples:\012  fontcut check font.ttf\012  fontcut check - <font.ttf\012\012Exit status: 0 accepted without a finding; 1 a finding, or refused; 2 usage error;\0123 a file cannot be read or writtenshowShows the counts of FONT, which of its tables a cut keeps or drops, and whether it is a cutWith --verbose it also shows the layout tables, the axes and named instances of a variable font, and\012whether FONT is a lean, a layout or a variable cut.\012\012Examples:\012  fontcut show font.ttf\012  fontcut show font.ttf | grep dropped\012  fontcut show font.ttf --verbose\012\012Exit status: 0 shown; 1 the font is refused; 2 usage error; 3 a file cannot be read or writtencodesPrints the codes that FONT maps, ascending, one range a line, as subset --codes-file reads themA range is as long as possible: U+41 for one code, U+41-5A for those from U+41 to U+5A. With --glyphs the\012lines are like U+41 36 1401, in font units; of these subset --codes-file reads the codes.\012\012Examples:\012  fontcut codes font.ttf\012  fontcut codes font.ttf --glyphs\012  fontcut codes small.ttf | fontcut subset large.ttf cut.ttf --codes-file -\012\012Exit status: 0 printed; 1 the font is refused; 2 usage error; 3 a file cannot be read or writtenbelongsTells whether CUT is a cut of FONT for some characters: prints yes or noIf no kind is asked for, a cut of any kind belongs, and a line on standard error says of which kind it is.\012CUT may be a join of cuts, or a cut of an earlier version of this program. It does not belong to another\012font, or to a version of the font in which something that it keeps differs.\012\012Examples:\012  fontcut belongs cut.ttf font.ttf\012  fontcut belongs cut.ttf font.ttf >/dev/null || fontcut subset font.ttf cut.ttf U+20-7E\012\012Exit status: 0 yes; 1 no, or a file is refused; 2 usage error; 3 a file cannot be read or writtensubsetWrites the cut of FONT for the wanted characters to OUT, which is replacedA cut keeps the glyph numbers. It drops colours, bitmaps and signatures; fontcut show lists the tables.\012Full and lean cuts also drop the layout tables (GSUB, GPOS, GDEF, BASE, kern), which scripts such as\012Arabic and Devanagari need: --layout keeps them. A variable cut is a layout cut that also keeps the\012variations (fvar, avar, gvar, HVAR, MVAR, STAT, VVAR, cvar), so the font stays variable; other cuts have\012its default instance only. The lean cut of a cut is that of its font: --lean with the word all makes a\012cut lean.\012\012If a text is already shaped, --gids with the glyph numbers that came and --no-layout-closure give an exact\012cut, which is smaller. It shapes the text that it was made for; other text may vanish in it, without a\012fallback font.\012\012Examples:\012  fontcut subset font.ttf cut.ttf all\012  fontcut subset font.ttf cut.ttf --text 'Hello, world'\012  fontcut subset font.ttf lean.ttf U+20-7E --lean\012  fontcut subset font.ttf arabic.ttf U+20-7E U+600-6FF --layout\012  fontcut subset font.ttf kerned.ttf U+20-7E --layout --drop GSUB\012  fontcut subset font.ttf variable.ttf U+20-7E --variable\012  fontcut subset font.ttf exact.ttf --text office --gids 82,3312,70 --layout --no-layout-closure\012  fontcut subset font.ttf cut.ttf U+20-7E --text-file page.txt --report\012  fontcut subset font.ttf cut.ttf --unicodes 'U+4\?\?, U+20AC' --exclude 450-45F\012\012Exit status: 0 done; 1 the font is refused, or --strict and a code is not mapped; 2 usage error;\0123 a file cannot be read or writtensliceWrites the cut of FONT for each slice of a file to FOLDER/NAME.ttf, and replaces what is thereA line of the file of slices: latin U+20-7E,U+A0-FF; # starts a comment. Presets, such as web, arabic or\012japanese, are the files of share/fontcut/slices beside the folder of the program. In lean, layout and\012variable cuts the words gid5 and gid7-9 keep glyphs by their numbers. The font is tested once for all\012slices. A rule lists the codes of its slice that the font maps; a slice without any has no rule, and is\012named on standard error if it has no glyph numbers either.\012\012Examples:\012  fontcut slice font.ttf slices --slices slices.txt --lean\012  fontcut slice font.ttf slices --slices slices.txt --lean --css 'My Font' >slices/font.css\012  fontcut slice font.ttf slices --slices japanese --layout\012\012Exit status: 0 done; 1 the font is refused, or --strict and it maps no code of a slice;\0122 usage error, also in the file of slices; 3 a file cannot be read or writtenjoinJoins FILES, cuts of one font, into OUT: the cut for all their characters. OUT is replacedA join keeps what its cuts kept, and drops nothing. It is the cut of the font for all their characters.\012With --lean only lean cuts join; subset --lean with the word all makes a cut lean.\012With --layout only layout cuts join, and with --variable only variable cuts.\012\012Examples:\012  fontcut join -o all.ttf latin.ttf greek.ttf\012  fontcut join -o all.ttf all.ttf more.ttf\012  fontcut join --lean -o all.ttf latin.ttf greek.ttf\012\012Exit status: 0 done; 1 a file is refused, or they are not cuts of one font; 2 usage error;\0123 a file cannot be read or writtendemoShows what is found in a font of six glyphs, and the sizes of some of its cutsExamples:\012  fontcut demo\012  fontcut\012\012Exit status: 0 done; 2 usage error; 3 standard output cannot be written\000\000\000"};
-static const _Alignas(2) u8 table_d0e67785[1] = {0};
-static const _Alignas(8) struct PACKED { const u8 *_0; u8 _1[8]; const u8 *_2; u8 _3[8]; const u8 *_4; u8 _5[32]; } table_d90d2d18 = {
-(u8 *)&table_d90d2d18 + 48,
-{4},
-(u8 *)&table_d90d2d18 + 52,
-{6},
-(u8 *)&table_d90d2d18 + 58,
-{8,0,0,0,0,0,0,0,108,101,97,110,108,97,121,111,117,116,118,97,114,105,97,98,108,101}};
 static const _Alignas(8) struct PACKED { const u8 *_0; u8 _1[16]; const u8 *_2; u8 _3[16]; const u8 *_4; u8 _5[8]; const u8 *_6; u8 _7[40]; const u8 *_8; u8 _9[8]; const u8 *_10; u8 _11[40]; const u8 *_12; u8 _13[8]; const u8 *_14; u8 _15[40]; const u8 *_16; u8 _17[8]; const u8 *_18; u8 _19[40]; const u8 *_20; u8 _21[8]; const u8 *_22; u8 _23[40]; const u8 *_24; u8 _25[464]; } table_eed8d481 = {
 (u8 *)&table_eed8d481 + 384,
 {6,0,0,0,0,0,0,0,11},
@@ -647,6 +656,7 @@ static const u8 text_output_file_44efc8e6[13] = "--output-file";
 static const u8 text_output_file_f054afe4[11] = "output-file";
 static const u8 text_quiet_730fc499[5] = "quiet";
 static const u8 text_report[6] = "report";
+static const u8 text_sequences_388683fe[9] = "sequences";
 static const u8 text_show[4] = "show";
 static const u8 text_slice_07e3c19a[5] = "slice";
 static const u8 text_slices[6] = "slices";
@@ -1060,14 +1070,14 @@ v157:;
     core_iter_pattern_RefStrPattern_first_in(v19, v18, v153, v152);
     flag v161 = at(u8, v19) == 1;
     u64 v163 = at(u64, v19 + 16);
-    u8 *v167 = v161 ? (v153 + (i64)v163) : (u8 *)table_d0e67785;
+    u8 *v167 = v161 ? (v153 + (i64)v163) : (u8 *)table_55ba7287;
     memset(v17, 0, 24u);
     at(ptr, v16) = (u8 *)table_1ba82751;
     at(u64, v16 + 8) = 1;
     core_iter_pattern_RefStrPattern_first_in(v17, v16, v167, v161 ? (v152 - v163) : 0);
     flag v170 = at(u8, v17) == 1;
     u64 v173 = v170 ? at(u64, v17 + 8) : 0;
-    u8 *v174 = v170 ? v167 : (u8 *)table_d0e67785;
+    u8 *v174 = v170 ? v167 : (u8 *)table_55ba7287;
     v178 = 0;
 v175:;
     u64 v181 = v178 << 5;
@@ -1096,7 +1106,7 @@ v176:;
     flag v216 = at(u8, v12) == 1;
     u64 v218 = at(u64, v12 + 16);
     u64 v221 = v216 ? (v213 - v218) : 0;
-    u8 *v222 = v216 ? ((v153 + (i64)v211) + (i64)v218) : (u8 *)table_d0e67785;
+    u8 *v222 = v216 ? ((v153 + (i64)v211) + (i64)v218) : (u8 *)table_55ba7287;
     u64 v223 = (u64)v222;
     p_u64 v224 = core_iter_words_str_trim_end(v153, v209);
     u8 *v225 = v224._0;
@@ -1230,7 +1240,7 @@ v291:;
     flag v401 = at(u8, v7) == 1;
     u64 v405 = at(u64, v7 + 16);
     u64 v408 = v401 ? (v398 - v405) : 0;
-    u8 *v409 = v401 ? ((v384 + (i64)v396) + (i64)v405) : (u8 *)table_d0e67785;
+    u8 *v409 = v401 ? ((v384 + (i64)v396) + (i64)v405) : (u8 *)table_55ba7287;
     u64 v410 = (u64)v409;
     u64 v411 = v401 ? at(u64, v7 + 8) : v398;
     memset(v5, 0, 24u);
@@ -1456,10 +1466,10 @@ v65:;
 
 void command_line_parse_line(u8 *v0, u8 *v1, u64 v2) {
     _Alignas(8) u8 v4[1], v5[56], v6[40], v7[672], v8[24], v9[32], v10[24], v11[24], v12[24], v13[24], v14[680], v15[48], v16[24], v17[672], v18[680], v19[672], v21[24], v22[56], v23[40], v24[56], v25[40], v26[24], v28[32], v29[32], v30[32], v31[32], v32[32], v33[32], v34[32], v42[336], v43[336], v57[672], v65[48], v69[216], v70[168], v71[24], v72[384], v73[680], v78[216], v79[168], v80[24], v81[680], v82[672], v84[24], v92[672], v93[48], v97[216], v98[168], v99[24], v100[48], v104[216], v105[168], v106[24], v107[680], v108[48], v112[216], v113[168], v114[24], v115[48], v119[216], v120[168], v121[24], v122[48], v123[680], v124[680], v125[672], v126[48], v128[672], v140[216], v141[168], v142[24], v150[680], v151[344], v152[40], v153[40], v157[32], v158[320], v161[344], v162[24], v163[40], v164[24], v165[24];
-    u8 v20[439], v27[15], v35[27], v36[15], v37[15], v38[27], v39[15], v40[15], v41[27], v44[15], v45[27], v46[15], v47[27], v48[15], v49[27], v50[55], v51[7], v52[7], v53[7], v54[216], v55[168], v56[24], v58[55], v59[7], v60[7], v61[7], v62[216], v63[168], v64[24], v66[7], v67[7], v68[7], v74[55], v75[7], v76[7], v77[7], v85[55], v86[7], v87[7], v88[7], v89[216], v90[168], v91[24], v94[7], v95[7], v96[7], v101[7], v102[7], v103[7], v109[7], v110[7], v111[7], v116[7], v117[7], v118[7], v127[3], v129[55], v130[7], v131[7], v132[7], v133[216], v134[168], v135[24], v136[55], v137[7], v138[7], v139[7], v143[55], v144[7], v145[7], v146[7], v147[216], v148[168], v149[24], v154[7], v155[7], v156[7], v159[15], v160[27], *v258, *v312, *v315, *v318, *v321, *v324, *v327, v328, *v331, v332, *v335, v336, v337, *v338, v341, *v342, v345, *v346, *v349, *v352, *v355, *v358, *v361, v368, *v369, v372, *v373, v376, *v377, *v380, *v383, *v386, *v389, *v392, v492, v585, *v586, v589, *v590, v593, *v594, *v597, *v600, *v603, *v606, *v609, *v618, v637, v756, v759, v761, *v769, *v775, *v781, *v787, *v793, *v799, *v805, *v811, v757, *v812, v760, *v806, v762, *v800, *v794, *v788, *v782, *v776, *v770, v926, *v927, v930, *v931, v934, *v935, *v938, *v941, *v944, *v947, *v950, v957, *v958, v961, *v962, v965, *v966, *v969, *v972, *v975, *v978, *v981, v1043, v1044, v1045, v1065, v1069, *v1074, *v1087, *v1105, *v1144, *v1163, v1197, *v1205, *v1226, v1227, *v1237, *v1258, v1259, *v1268, *v1299, *v1320, *v1324, v1354, v1355, *v1357, *v1391, *v1392, *v1402, *v1404, v1406, v1407, v1408, v1409, v1410, *v1411, *v1421, *v1443, *v1446, *v1468, *v1502, *v1503, *v1513, *v1518, *v1552, *v1553, *v1562, *v1567, *v1601, *v1602, *v1611, *v1618, *v1636, *v1637, *v1673, *v1676, *v1678, *v1712, *v1713, *v1726, v1951, *v1953, v1954, v1955, *v1960, *v1963, *v1965, *v1968, *v1971, *v1974, *v1977, *v1980, v1983, v1984, v1985, v1986, v1987, *v2196, *v2199, *v2202, *v2205, *v2208, *v2211, *v2214, *v2217, v2220, v2221, v2222, v2223, v2224, v2226, v2227, *v2228, v2231, v2232, *v2233, v2235, v2187, *v2188, v2190, v2237, *v2239, v2240, *v2243, v2244, v2245, v2247, v2248, v2249, v2250, v2251, *v2254, *v2257, *v2260, *v2263, *v2266, *v2269, *v2272, *v2275, v2556, v989, v990, v1118, v1119, v1120;
+    u8 v20[439], v27[15], v35[27], v36[15], v37[15], v38[27], v39[15], v40[15], v41[27], v44[15], v45[27], v46[15], v47[27], v48[15], v49[27], v50[55], v51[7], v52[7], v53[7], v54[216], v55[168], v56[24], v58[55], v59[7], v60[7], v61[7], v62[216], v63[168], v64[24], v66[7], v67[7], v68[7], v74[55], v75[7], v76[7], v77[7], v85[55], v86[7], v87[7], v88[7], v89[216], v90[168], v91[24], v94[7], v95[7], v96[7], v101[7], v102[7], v103[7], v109[7], v110[7], v111[7], v116[7], v117[7], v118[7], v127[3], v129[55], v130[7], v131[7], v132[7], v133[216], v134[168], v135[24], v136[55], v137[7], v138[7], v139[7], v143[55], v144[7], v145[7], v146[7], v147[216], v148[168], v149[24], v154[7], v155[7], v156[7], v159[15], v160[27], *v258, *v312, *v315, *v318, *v321, *v324, *v327, v328, *v331, v332, *v335, v336, v337, *v338, v341, *v342, v345, *v346, *v349, *v352, *v355, *v358, *v361, v368, *v369, v372, *v373, v376, *v377, *v380, *v383, *v386, *v389, *v392, v492, v585, *v586, v589, *v590, v593, *v594, *v597, *v600, *v603, *v606, *v609, *v618, v637, v756, v759, v761, *v769, *v775, *v781, *v787, *v793, *v799, *v805, *v811, v757, *v812, v760, *v806, v762, *v800, *v794, *v788, *v782, *v776, *v770, v926, *v927, v930, *v931, v934, *v935, *v938, *v941, *v944, *v947, *v950, v957, *v958, v961, *v962, v965, *v966, *v969, *v972, *v975, *v978, *v981, v1043, v1044, v1045, v1065, v1069, *v1074, *v1087, *v1105, *v1144, *v1163, v1197, *v1205, *v1226, v1227, *v1237, *v1258, v1259, *v1268, v1291, *v1303, *v1324, *v1328, v1358, v1359, *v1361, *v1395, *v1396, *v1406, *v1408, v1410, v1411, v1412, v1413, v1414, *v1415, *v1425, *v1447, *v1450, *v1472, *v1506, *v1507, *v1517, *v1522, *v1556, *v1557, *v1566, *v1571, *v1605, *v1606, *v1615, *v1622, *v1640, *v1641, *v1677, *v1680, *v1682, *v1716, *v1717, *v1730, v1955, *v1957, v1958, v1959, *v1964, *v1967, *v1969, *v1972, *v1975, *v1978, *v1981, *v1984, v1987, v1988, v1989, v1990, v1991, *v2200, *v2203, *v2206, *v2209, *v2212, *v2215, *v2218, *v2221, v2224, v2225, v2226, v2227, v2228, v2230, v2231, *v2232, v2235, v2236, *v2237, v2239, v2191, *v2192, v2194, v2241, *v2243, v2244, *v2247, v2248, v2249, v2251, v2252, v2253, v2254, v2255, *v2258, *v2261, *v2264, *v2267, *v2270, *v2273, *v2276, *v2279, v2560, v989, v990, v1118, v1119, v1120;
     _Alignas(4) u8 v83[4];
-    u64 v249, v259, v267, v310, v311, v313, v314, v316, v317, v319, v320, v322, v323, v325, v326, v329, v330, v333, v334, v339, v340, v343, v344, v347, v348, v350, v351, v353, v354, v356, v357, v359, v360, v362, v363, v370, v371, v374, v375, v378, v379, v381, v382, v384, v385, v387, v388, v390, v391, v393, v394, v433, v444, v493, v494, v495, v587, v588, v591, v592, v595, v596, v598, v599, v601, v602, v604, v605, v607, v608, v610, v611, v621, v763, v765, v767, v771, v773, v777, v779, v783, v785, v789, v791, v795, v797, v801, v803, v807, v809, v810, v808, v804, v802, v798, v796, v792, v790, v786, v784, v780, v778, v774, v772, v768, v766, v879, v890, v928, v929, v932, v933, v936, v937, v939, v940, v942, v943, v945, v946, v948, v949, v951, v952, v959, v960, v963, v964, v967, v968, v970, v971, v973, v974, v976, v977, v979, v980, v982, v983, v1041, v1042, v1077, v1090, v1108, v1145, v1149, v1164, v1208, v1228, v1240, v1260, v1271, v1302, v1321, v1327, v1360, v1395, v1390, v1393, v1403, v1405, v1412, v1424, v1442, v1449, v1471, v1506, v1501, v1504, v1514, v1521, v1556, v1551, v1554, v1563, v1570, v1605, v1600, v1603, v1612, v1621, v1639, v1641, v1656, v1672, v1674, v1675, v1681, v1716, v1711, v1714, v1727, v1952, v1956, v1957, v1958, v1959, v1961, v1962, v1964, v1966, v1967, v1969, v1970, v1972, v1973, v1975, v1976, v1978, v1979, v1981, v1982, v1988, v2193, v2194, v2195, v2197, v2198, v2200, v2201, v2203, v2204, v2206, v2207, v2209, v2210, v2212, v2213, v2215, v2216, v2218, v2219, v2225, v2229, v2230, v2234, v2334, v2340, v2189, v2238, v2241, v2242, v2246, v2252, v2253, v2255, v2256, v2258, v2259, v2261, v2262, v2264, v2265, v2267, v2268, v2270, v2271, v2273, v2274, v2276, v2277, v2278, v2385, v2488, v2521, v2514, v2558, v2623, v2640, v2747, v2686, v988, v991, v1116, v1117;
-    flag v364, v365, v395, v925, v1322, v1444, v2555, v2557;
+    u64 v249, v259, v267, v310, v311, v313, v314, v316, v317, v319, v320, v322, v323, v325, v326, v329, v330, v333, v334, v339, v340, v343, v344, v347, v348, v350, v351, v353, v354, v356, v357, v359, v360, v362, v363, v370, v371, v374, v375, v378, v379, v381, v382, v384, v385, v387, v388, v390, v391, v393, v394, v433, v444, v493, v494, v495, v587, v588, v591, v592, v595, v596, v598, v599, v601, v602, v604, v605, v607, v608, v610, v611, v621, v763, v765, v767, v771, v773, v777, v779, v783, v785, v789, v791, v795, v797, v801, v803, v807, v809, v810, v808, v804, v802, v798, v796, v792, v790, v786, v784, v780, v778, v774, v772, v768, v766, v879, v890, v928, v929, v932, v933, v936, v937, v939, v940, v942, v943, v945, v946, v948, v949, v951, v952, v959, v960, v963, v964, v967, v968, v970, v971, v973, v974, v976, v977, v979, v980, v982, v983, v1041, v1042, v1077, v1090, v1108, v1145, v1149, v1164, v1208, v1228, v1240, v1260, v1271, v1306, v1325, v1331, v1364, v1399, v1394, v1397, v1407, v1409, v1416, v1428, v1446, v1453, v1475, v1510, v1505, v1508, v1518, v1525, v1560, v1555, v1558, v1567, v1574, v1609, v1604, v1607, v1616, v1625, v1643, v1645, v1660, v1676, v1678, v1679, v1685, v1720, v1715, v1718, v1731, v1956, v1960, v1961, v1962, v1963, v1965, v1966, v1968, v1970, v1971, v1973, v1974, v1976, v1977, v1979, v1980, v1982, v1983, v1985, v1986, v1992, v2197, v2198, v2199, v2201, v2202, v2204, v2205, v2207, v2208, v2210, v2211, v2213, v2214, v2216, v2217, v2219, v2220, v2222, v2223, v2229, v2233, v2234, v2238, v2338, v2344, v2193, v2242, v2245, v2246, v2250, v2256, v2257, v2259, v2260, v2262, v2263, v2265, v2266, v2268, v2269, v2271, v2272, v2274, v2275, v2277, v2278, v2280, v2281, v2282, v2389, v2492, v2525, v2518, v2562, v2627, v2644, v2751, v2690, v988, v991, v1116, v1117;
+    flag v364, v365, v395, v925, v1326, v1448, v2559, v2561;
     memset(v151, 0, 344u);
     memset(v152, 0, 40u);
     memset(v153, 0, 40u);
@@ -1518,7 +1528,7 @@ v246:;
     memset(v123, 0, 680u);
     memset(v124, 0, 680u);
     memset(v125, 0, 672u);
-    if (v168) { v258 = (u8 *)table_d0e67785; v259 = 0; goto v254; }
+    if (v168) { v258 = (u8 *)table_55ba7287; v259 = 0; goto v254; }
     v258 = at(ptr, v1); v259 = at(u64, v1 + 8);
 v254:;
     if (v253 == 0) goto v261;
@@ -2181,7 +2191,7 @@ v1146:;
     v1163 = at(ptr, (u8 *)&table_392949d0 + (i64)v1152 + 16); v1164 = at(u64, (u8 *)&table_392949d0 + (i64)v1152 + 24); goto v1151;
 v1147:;
     u64 v1148 = v1149 + 1;
-    if (v1148 == 50u) { v1163 = (u8 *)table_d0e67785; v1164 = 0; } else { v1149 = v1148; goto v1146; }
+    if (v1148 == 50u) { v1163 = (u8 *)table_55ba7287; v1164 = 0; } else { v1149 = v1148; goto v1146; }
 v1151:;
     command_line_said_of_peer(v157, v1144, v1145, v1163, v1164);
     if (!(at(u8, v157) == 0)) goto v1168;
@@ -2241,7 +2251,7 @@ v1204:;
     v1226 = at(ptr_1, v1222); v1227 = 1; v1228 = at(u64_1, v1222 + 8);
 v1211:;
     memset(v38, 0, 27u);
-    v2193 = 0; v2194 = 0; v2195 = 0; v2196 = (u8 *)0; v2197 = 0; v2198 = 0; v2199 = (u8 *)0; v2200 = 0; v2201 = 0; v2202 = (u8 *)0; v2203 = 0; v2204 = 0; v2205 = (u8 *)0; v2206 = 0; v2207 = 0; v2208 = (u8 *)0; v2209 = 0; v2210 = 0; v2211 = (u8 *)0; v2212 = 0; v2213 = 0; v2214 = (u8 *)0; v2215 = 0; v2216 = 0; v2217 = (u8 *)0; v2218 = 0; v2219 = 0; v2220 = 0; v2221 = 0; v2222 = 0; v2223 = 0; v2224 = 0; v2225 = 0; v2226 = 0; v2227 = 0; v2228 = (u8 *)0; v2229 = 0; v2230 = 0; v2231 = v1227; v2232 = 0; v2233 = v1226; v2234 = v1228; v2235 = 0; goto v1229;
+    v2197 = 0; v2198 = 0; v2199 = 0; v2200 = (u8 *)0; v2201 = 0; v2202 = 0; v2203 = (u8 *)0; v2204 = 0; v2205 = 0; v2206 = (u8 *)0; v2207 = 0; v2208 = 0; v2209 = (u8 *)0; v2210 = 0; v2211 = 0; v2212 = (u8 *)0; v2213 = 0; v2214 = 0; v2215 = (u8 *)0; v2216 = 0; v2217 = 0; v2218 = (u8 *)0; v2219 = 0; v2220 = 0; v2221 = (u8 *)0; v2222 = 0; v2223 = 0; v2224 = 0; v2225 = 0; v2226 = 0; v2227 = 0; v2228 = 0; v2229 = 0; v2230 = 0; v2231 = 0; v2232 = (u8 *)0; v2233 = 0; v2234 = 0; v2235 = v1227; v2236 = 0; v2237 = v1226; v2238 = v1228; v2239 = 0; goto v1229;
 v1200:;
     if (!core_cmp_bytes_equal(v1185, v1187, (u8 *)text_show, 4)) goto v1232;
     v1237 = at(ptr, v1054 + 16); v1240 = at(u64, v1054 + 24);
@@ -2253,80 +2263,83 @@ v1236:;
     v1258 = at(ptr_1, v1254); v1259 = 1; v1260 = at(u64_1, v1254 + 8);
 v1243:;
     memset(v38, 0, 27u);
-    v2193 = 0; v2194 = 0; v2195 = 0; v2196 = (u8 *)0; v2197 = 0; v2198 = 0; v2199 = (u8 *)0; v2200 = 0; v2201 = 0; v2202 = (u8 *)0; v2203 = 0; v2204 = 0; v2205 = (u8 *)0; v2206 = 0; v2207 = 0; v2208 = (u8 *)0; v2209 = 0; v2210 = 0; v2211 = (u8 *)0; v2212 = 0; v2213 = 0; v2214 = (u8 *)0; v2215 = 0; v2216 = 0; v2217 = (u8 *)0; v2218 = 0; v2219 = 0; v2220 = 0; v2221 = 0; v2222 = 0; v2223 = 0; v2224 = 0; v2225 = 0; v2226 = 0; v2227 = 0; v2228 = (u8 *)0; v2229 = 0; v2230 = 0; v2231 = v1259; v2232 = v1259; v2233 = v1258; v2234 = v1260; v2235 = 0; goto v1229;
+    v2197 = 0; v2198 = 0; v2199 = 0; v2200 = (u8 *)0; v2201 = 0; v2202 = 0; v2203 = (u8 *)0; v2204 = 0; v2205 = 0; v2206 = (u8 *)0; v2207 = 0; v2208 = 0; v2209 = (u8 *)0; v2210 = 0; v2211 = 0; v2212 = (u8 *)0; v2213 = 0; v2214 = 0; v2215 = (u8 *)0; v2216 = 0; v2217 = 0; v2218 = (u8 *)0; v2219 = 0; v2220 = 0; v2221 = (u8 *)0; v2222 = 0; v2223 = 0; v2224 = 0; v2225 = 0; v2226 = 0; v2227 = 0; v2228 = 0; v2229 = 0; v2230 = 0; v2231 = 0; v2232 = (u8 *)0; v2233 = 0; v2234 = 0; v2235 = v1259; v2236 = v1259; v2237 = v1258; v2238 = v1260; v2239 = 0; goto v1229;
 v1232:;
     if (!core_cmp_bytes_equal(v1185, v1187, (u8 *)text_codes_cdb54161, 5)) goto v1263;
     v1268 = at(ptr, v1054 + 16); v1271 = at(u64, v1054 + 24);
 v1267:;
     if (v1271 == 0) goto v1274;
     if (!core_cmp_bytes_equal(at(ptr_1, v1268), at(u64_1, v1268 + 8), (u8 *)text_FONT, 4)) { v1268 = v1268 + 104; v1271 = v1271 - 1; goto v1267; }
+    u8 *v1281 = at(ptr, v1268 + 48);
     if (at(u64, v1268 + 56) == 0) goto v1274;
-    u8 *v1285 = at(ptr, v1268 + 48);
-    u8 v1287 = (u8)clap_parser_matches_ArgMatches_get_flag(v1054 + 16, (u8 *)text_glyphs_9cfa8df0, 6);
-    v2187 = 2; v2188 = at(ptr_1, v1285); v2189 = at(u64_1, v1285 + 8); v2190 = v1287; goto v1291;
+    if (clap_parser_matches_ArgMatches_get_flag(v1054 + 16, (u8 *)text_glyphs_9cfa8df0, 6)) { v1291 = 1; goto v1287; }
+    flag v1289 = clap_parser_matches_ArgMatches_get_flag(v1054 + 16, (u8 *)text_sequences_388683fe, 9);
+    v1291 = v1289 ? 2 : 0;
+v1287:;
+    v2191 = 2; v2192 = at(ptr_1, v1281); v2193 = at(u64_1, v1281 + 8); v2194 = v1291; goto v1295;
 v1263:;
-    if (!core_cmp_bytes_equal(v1185, v1187, (u8 *)text_belongs, 7)) goto v1294;
-    u8 *v1295 = at(ptr, v1054 + 16);
-    u64 v1297 = at(u64, v1054 + 24);
-    v1299 = v1295; v1302 = v1297;
-v1298:;
-    if (v1302 == 0) { v1320 = (u8 *)0; v1321 = 0; v1322 = 0; goto v1305; }
-    if (!core_cmp_bytes_equal(at(ptr_1, v1299), at(u64_1, v1299 + 8), (u8 *)text_CUT, 3)) { v1299 = v1299 + 104; v1302 = v1302 - 1; goto v1298; }
-    if (at(u64, v1299 + 56) == 0) { v1320 = (u8 *)0; v1321 = 0; v1322 = 0; goto v1305; }
-    u8 *v1316 = at(ptr, v1299 + 48);
-    v1320 = at(ptr_1, v1316); v1321 = at(u64_1, v1316 + 8); v1322 = 1;
-v1305:;
-    v1324 = v1295; v1327 = v1297;
-v1323:;
-    if (v1327 == 0) goto v1330;
-    if (!core_cmp_bytes_equal(at(ptr_1, v1324), at(u64_1, v1324 + 8), (u8 *)text_FONT, 4)) { v1324 = v1324 + 104; v1327 = v1327 - 1; goto v1323; }
-    if (!(v1322 & (at(u64, v1324 + 56) != 0))) goto v1330;
-    u8 *v1342 = at(ptr, v1324 + 48);
-    u8 v1343 = at(u8, v1342);
-    memcpy(v36, v1342 + 1, 15u);
-    if (clap_parser_matches_ArgMatches_get_flag(v1054 + 16, (u8 *)text_variable, 8)) { v1354 = 3; v1355 = 1; goto v1346; }
-    if (clap_parser_matches_ArgMatches_get_flag(v1054 + 16, (u8 *)text_layout_035ac814, 6)) { v1354 = 2; v1355 = 1; goto v1346; }
-    if (clap_parser_matches_ArgMatches_get_flag(v1054 + 16, (u8 *)text_lean, 4)) { v1354 = 1; v1355 = 1; goto v1346; }
-    u8 v1353 = (u8)clap_parser_matches_ArgMatches_get_flag(v1054 + 16, (u8 *)text_full, 4);
-    v1354 = 0; v1355 = v1353;
-v1346:;
-    v1357 = v1295; v1360 = v1297;
-v1356:;
-    if (v1360 == 0) { v1390 = 0; v1391 = v4; v1392 = v4; v1393 = 0; goto v1363; }
-    if (!core_cmp_bytes_equal(at(ptr_1, v1357), at(u64_1, v1357 + 8), (u8 *)text_drop, 4)) { v1357 = v1357 + 104; v1360 = v1360 - 1; goto v1356; }
-    u8 *v1370 = at(ptr, v1357 + 48);
-    u64 v1372 = at(u64, v1357 + 56);
-    if (v1372 == 0) { v1390 = 0; v1391 = v1370; v1392 = v4; v1393 = 0; goto v1363; }
-    if (!(v1372 < 0x800000000000000u)) goto v1377;
-    u64 v1378 = v1372 << 4;
-    u64_u64 v1380 = sys_rattle_alloc(v1378, 8);
-    if (!(v1380._0 & 1)) goto v1377;
-    u64 v1384 = v1380._1;
-    u8 *v1385 = (u8 *)v1384;
-    if ((v1384 - ((u64)v1370)) < v1378) v1395 = 0; else { v1390 = v1372; v1391 = v1370; v1392 = v1385; v1393 = v1378; goto v1363; }
-v1389:;
-    u64 v1397 = v1395 << 4;
-    memmove(v1385 + v1397, v1370 + v1397, 16u);
-    u64 v1396 = v1395 + 1;
-    if (v1396 == v1372) { v1402 = v1385; v1403 = v1372; goto v1394; }
-    v1395 = v1396; goto v1389;
-v1363:;
-    memmove_any(v1392, v1391, v1393);
-    v1402 = v1392; v1403 = v1390;
-v1394:;
+    if (!core_cmp_bytes_equal(v1185, v1187, (u8 *)text_belongs, 7)) goto v1298;
+    u8 *v1299 = at(ptr, v1054 + 16);
+    u64 v1301 = at(u64, v1054 + 24);
+    v1303 = v1299; v1306 = v1301;
+v1302:;
+    if (v1306 == 0) { v1324 = (u8 *)0; v1325 = 0; v1326 = 0; goto v1309; }
+    if (!core_cmp_bytes_equal(at(ptr_1, v1303), at(u64_1, v1303 + 8), (u8 *)text_CUT, 3)) { v1303 = v1303 + 104; v1306 = v1306 - 1; goto v1302; }
+    if (at(u64, v1303 + 56) == 0) { v1324 = (u8 *)0; v1325 = 0; v1326 = 0; goto v1309; }
+    u8 *v1320 = at(ptr, v1303 + 48);
+    v1324 = at(ptr_1, v1320); v1325 = at(u64_1, v1320 + 8); v1326 = 1;
+v1309:;
+    v1328 = v1299; v1331 = v1301;
+v1327:;
+    if (v1331 == 0) goto v1334;
+    if (!core_cmp_bytes_equal(at(ptr_1, v1328), at(u64_1, v1328 + 8), (u8 *)text_FONT, 4)) { v1328 = v1328 + 104; v1331 = v1331 - 1; goto v1327; }
+    if (!(v1326 & (at(u64, v1328 + 56) != 0))) goto v1334;
+    u8 *v1346 = at(ptr, v1328 + 48);
+    u8 v1347 = at(u8, v1346);
+    memcpy(v36, v1346 + 1, 15u);
+    if (clap_parser_matches_ArgMatches_get_flag(v1054 + 16, (u8 *)text_variable, 8)) { v1358 = 3; v1359 = 1; goto v1350; }
+    if (clap_parser_matches_ArgMatches_get_flag(v1054 + 16, (u8 *)text_layout_035ac814, 6)) { v1358 = 2; v1359 = 1; goto v1350; }
+    if (clap_parser_matches_ArgMatches_get_flag(v1054 + 16, (u8 *)text_lean, 4)) { v1358 = 1; v1359 = 1; goto v1350; }
+    u8 v1357 = (u8)clap_parser_matches_ArgMatches_get_flag(v1054 + 16, (u8 *)text_full, 4);
+    v1358 = 0; v1359 = v1357;
+v1350:;
+    v1361 = v1299; v1364 = v1301;
+v1360:;
+    if (v1364 == 0) { v1394 = 0; v1395 = v4; v1396 = v4; v1397 = 0; goto v1367; }
+    if (!core_cmp_bytes_equal(at(ptr_1, v1361), at(u64_1, v1361 + 8), (u8 *)text_drop, 4)) { v1361 = v1361 + 104; v1364 = v1364 - 1; goto v1360; }
+    u8 *v1374 = at(ptr, v1361 + 48);
+    u64 v1376 = at(u64, v1361 + 56);
+    if (v1376 == 0) { v1394 = 0; v1395 = v1374; v1396 = v4; v1397 = 0; goto v1367; }
+    if (!(v1376 < 0x800000000000000u)) goto v1381;
+    u64 v1382 = v1376 << 4;
+    u64_u64 v1384 = sys_rattle_alloc(v1382, 8);
+    if (!(v1384._0 & 1)) goto v1381;
+    u64 v1388 = v1384._1;
+    u8 *v1389 = (u8 *)v1388;
+    if ((v1388 - ((u64)v1374)) < v1382) v1399 = 0; else { v1394 = v1376; v1395 = v1374; v1396 = v1389; v1397 = v1382; goto v1367; }
+v1393:;
+    u64 v1401 = v1399 << 4;
+    memmove(v1389 + v1401, v1374 + v1401, 16u);
+    u64 v1400 = v1399 + 1;
+    if (v1400 == v1376) { v1406 = v1389; v1407 = v1376; goto v1398; }
+    v1399 = v1400; goto v1393;
+v1367:;
+    memmove_any(v1396, v1395, v1397);
+    v1406 = v1396; v1407 = v1394;
+v1398:;
     memcpy(v39, v36, 15u);
-    v1404 = v1320; v1405 = v1321; v1406 = v1343; v1407 = 1; v1408 = 3; v1409 = v1355; v1410 = v1354; v1411 = v1402; v1412 = v1403; goto v1401;
-v1377:;
-    v2334 = v1041; goto v1413;
-v1330:;
+    v1408 = v1324; v1409 = v1325; v1410 = v1347; v1411 = 1; v1412 = 3; v1413 = v1359; v1414 = v1358; v1415 = v1406; v1416 = v1407; goto v1405;
+v1381:;
+    v2338 = v1041; goto v1417;
+v1334:;
     memset(v39, 0, 15u);
-    v1404 = (u8 *)0; v1405 = 0; v1406 = 0; v1407 = 0; v1408 = 0; v1409 = 0; v1410 = 0; v1411 = (u8 *)0; v1412 = 0;
-v1401:;
+    v1408 = (u8 *)0; v1409 = 0; v1410 = 0; v1411 = 0; v1412 = 0; v1413 = 0; v1414 = 0; v1415 = (u8 *)0; v1416 = 0;
+v1405:;
     memcpy(v37, v39, 15u);
     memset(v38, 0, 27u);
-    v2193 = 0; v2194 = 0; v2195 = 0; v2196 = (u8 *)0; v2197 = 0; v2198 = 0; v2199 = (u8 *)0; v2200 = 0; v2201 = 0; v2202 = (u8 *)0; v2203 = 0; v2204 = 0; v2205 = (u8 *)0; v2206 = 0; v2207 = 0; v2208 = (u8 *)0; v2209 = 0; v2210 = 0; v2211 = (u8 *)0; v2212 = 0; v2213 = 0; v2214 = (u8 *)0; v2215 = 0; v2216 = 0; v2217 = (u8 *)0; v2218 = 0; v2219 = 0; v2220 = 0; v2221 = 0; v2222 = 0; v2223 = 0; v2224 = 0; v2225 = 0; v2226 = v1409; v2227 = v1410; v2228 = v1411; v2229 = v1412; v2230 = v1412; v2231 = v1407; v2232 = v1408; v2233 = v1404; v2234 = v1405; v2235 = v1406; goto v1229;
-v1294:;
-    if (!core_cmp_bytes_equal(v1185, v1187, (u8 *)text_subset, 6)) goto v1416;
+    v2197 = 0; v2198 = 0; v2199 = 0; v2200 = (u8 *)0; v2201 = 0; v2202 = 0; v2203 = (u8 *)0; v2204 = 0; v2205 = 0; v2206 = (u8 *)0; v2207 = 0; v2208 = 0; v2209 = (u8 *)0; v2210 = 0; v2211 = 0; v2212 = (u8 *)0; v2213 = 0; v2214 = 0; v2215 = (u8 *)0; v2216 = 0; v2217 = 0; v2218 = (u8 *)0; v2219 = 0; v2220 = 0; v2221 = (u8 *)0; v2222 = 0; v2223 = 0; v2224 = 0; v2225 = 0; v2226 = 0; v2227 = 0; v2228 = 0; v2229 = 0; v2230 = v1413; v2231 = v1414; v2232 = v1415; v2233 = v1416; v2234 = v1416; v2235 = v1411; v2236 = v1412; v2237 = v1408; v2238 = v1409; v2239 = v1410; goto v1229;
+v1298:;
+    if (!core_cmp_bytes_equal(v1185, v1187, (u8 *)text_subset, 6)) goto v1420;
     memset(v28, 0, 32u);
     memset(v29, 0, 32u);
     memset(v30, 0, 32u);
@@ -2335,618 +2348,618 @@ v1294:;
     memset(v33, 0, 32u);
     memset(v34, 0, 32u);
     memset(v35, 0, 27u);
-    u8 *v1417 = at(ptr, v1054 + 16);
-    u64 v1419 = at(u64, v1054 + 24);
-    v1421 = v1417; v1424 = v1419;
-v1420:;
-    if (v1424 == 0) { v1442 = 0; v1443 = (u8 *)0; v1444 = 1; goto v1427; }
-    if (!core_cmp_bytes_equal(at(ptr_1, v1421), at(u64_1, v1421 + 8), (u8 *)text_FONT, 4)) { v1421 = v1421 + 104; v1424 = v1424 - 1; goto v1420; }
-    if (at(u64, v1421 + 56) == 0) { v1442 = 0; v1443 = (u8 *)0; v1444 = 1; goto v1427; }
-    u8 *v1438 = at(ptr, v1421 + 48);
-    v1442 = at(u64_1, v1438 + 8); v1443 = at(ptr_1, v1438); v1444 = 0;
-v1427:;
-    v1446 = v1417; v1449 = v1419;
-v1445:;
-    if (v1449 == 0) goto v1452;
-    if (!core_cmp_bytes_equal(at(ptr_1, v1446), at(u64_1, v1446 + 8), (u8 *)text_OUT, 3)) { v1446 = v1446 + 104; v1449 = v1449 - 1; goto v1445; }
-    if (!(v1444 | (at(u64, v1446 + 56) == 0))) goto v1462;
-v1452:;
+    u8 *v1421 = at(ptr, v1054 + 16);
+    u64 v1423 = at(u64, v1054 + 24);
+    v1425 = v1421; v1428 = v1423;
+v1424:;
+    if (v1428 == 0) { v1446 = 0; v1447 = (u8 *)0; v1448 = 1; goto v1431; }
+    if (!core_cmp_bytes_equal(at(ptr_1, v1425), at(u64_1, v1425 + 8), (u8 *)text_FONT, 4)) { v1425 = v1425 + 104; v1428 = v1428 - 1; goto v1424; }
+    if (at(u64, v1425 + 56) == 0) { v1446 = 0; v1447 = (u8 *)0; v1448 = 1; goto v1431; }
+    u8 *v1442 = at(ptr, v1425 + 48);
+    v1446 = at(u64_1, v1442 + 8); v1447 = at(ptr_1, v1442); v1448 = 0;
+v1431:;
+    v1450 = v1421; v1453 = v1423;
+v1449:;
+    if (v1453 == 0) goto v1456;
+    if (!core_cmp_bytes_equal(at(ptr_1, v1450), at(u64_1, v1450 + 8), (u8 *)text_OUT, 3)) { v1450 = v1450 + 104; v1453 = v1453 - 1; goto v1449; }
+    if (!(v1448 | (at(u64, v1450 + 56) == 0))) goto v1466;
+v1456:;
     memset(v40, 0, 15u);
     memset(v41, 0, 27u);
-    v1951 = 0; v1952 = 0; v1953 = (u8 *)0; v1954 = 0; v1955 = 0; v1956 = 0; v1957 = 0; v1958 = 0; v1959 = 0; v1960 = (u8 *)0; v1961 = 0; v1962 = 0; v1963 = (u8 *)0; v1964 = 0; v1965 = (u8 *)0; v1966 = 0; v1967 = 0; v1968 = (u8 *)0; v1969 = 0; v1970 = 0; v1971 = (u8 *)0; v1972 = 0; v1973 = 0; v1974 = (u8 *)0; v1975 = 0; v1976 = 0; v1977 = (u8 *)0; v1978 = 0; v1979 = 0; v1980 = (u8 *)0; v1981 = 0; v1982 = 0; v1983 = 0; v1984 = 0; v1985 = 0; v1986 = 0; v1987 = 0; v1988 = 0; goto v1512;
-v1462:;
-    u8 *v1464 = at(ptr, v1446 + 48);
-    u8 v1465 = at(u8, v1464);
-    memcpy(v27, v1464 + 1, 15u);
-    v1468 = v1417; v1471 = v1419;
-v1467:;
-    if (v1471 == 0) { v1501 = 0; v1502 = v4; v1503 = v4; v1504 = 0; goto v1474; }
-    if (!core_cmp_bytes_equal(at(ptr_1, v1468), at(u64_1, v1468 + 8), (u8 *)text_text, 4)) { v1468 = v1468 + 104; v1471 = v1471 - 1; goto v1467; }
-    u8 *v1481 = at(ptr, v1468 + 48);
-    u64 v1483 = at(u64, v1468 + 56);
-    if (v1483 == 0) { v1501 = 0; v1502 = v1481; v1503 = v4; v1504 = 0; goto v1474; }
-    if (!(v1483 < 0x800000000000000u)) goto v1488;
-    u64 v1489 = v1483 << 4;
-    u64_u64 v1491 = sys_rattle_alloc(v1489, 8);
-    if (!(v1491._0 & 1)) goto v1488;
-    u64 v1495 = v1491._1;
-    u8 *v1496 = (u8 *)v1495;
-    if ((v1495 - ((u64)v1481)) < v1489) v1506 = 0; else { v1501 = v1483; v1502 = v1481; v1503 = v1496; v1504 = v1489; goto v1474; }
-v1500:;
-    u64 v1508 = v1506 << 4;
-    memmove(v1496 + v1508, v1481 + v1508, 16u);
-    u64 v1507 = v1506 + 1;
-    if (v1507 == v1483) { v1513 = v1496; v1514 = v1483; goto v1505; }
-    v1506 = v1507; goto v1500;
-v1474:;
-    memmove_any(v1503, v1502, v1504);
-    v1513 = v1503; v1514 = v1501;
-v1505:;
-    v1518 = at(ptr, v1054 + 16); v1521 = at(u64, v1054 + 24);
-v1517:;
-    if (v1521 == 0) { v1551 = 0; v1552 = v4; v1553 = v4; v1554 = 0; goto v1524; }
-    if (!core_cmp_bytes_equal(at(ptr_1, v1518), at(u64_1, v1518 + 8), (u8 *)text_text_file, 9)) { v1518 = v1518 + 104; v1521 = v1521 - 1; goto v1517; }
-    u8 *v1531 = at(ptr, v1518 + 48);
-    u64 v1533 = at(u64, v1518 + 56);
-    if (v1533 == 0) { v1551 = 0; v1552 = v1531; v1553 = v4; v1554 = 0; goto v1524; }
-    if (!(v1533 < 0x800000000000000u)) goto v1538;
-    u64 v1539 = v1533 << 4;
-    u64_u64 v1541 = sys_rattle_alloc(v1539, 8);
-    if (!(v1541._0 & 1)) goto v1538;
-    u64 v1545 = v1541._1;
-    u8 *v1546 = (u8 *)v1545;
-    if ((v1545 - ((u64)v1531)) < v1539) v1556 = 0; else { v1551 = v1533; v1552 = v1531; v1553 = v1546; v1554 = v1539; goto v1524; }
-v1550:;
-    u64 v1558 = v1556 << 4;
-    memmove(v1546 + v1558, v1531 + v1558, 16u);
-    u64 v1557 = v1556 + 1;
-    if (v1557 == v1533) { v1562 = v1546; v1563 = v1533; goto v1555; }
-    v1556 = v1557; goto v1550;
-v1524:;
-    memmove_any(v1553, v1552, v1554);
-    v1562 = v1553; v1563 = v1551;
-v1555:;
-    v1567 = at(ptr, v1054 + 16); v1570 = at(u64, v1054 + 24);
-v1566:;
-    if (v1570 == 0) { v1600 = 0; v1601 = v4; v1602 = v4; v1603 = 0; goto v1573; }
-    if (!core_cmp_bytes_equal(at(ptr_1, v1567), at(u64_1, v1567 + 8), (u8 *)text_codes_file, 10u)) { v1567 = v1567 + 104; v1570 = v1570 - 1; goto v1566; }
-    u8 *v1580 = at(ptr, v1567 + 48);
-    u64 v1582 = at(u64, v1567 + 56);
-    if (v1582 == 0) { v1600 = 0; v1601 = v1580; v1602 = v4; v1603 = 0; goto v1573; }
-    if (!(v1582 < 0x800000000000000u)) goto v1587;
-    u64 v1588 = v1582 << 4;
-    u64_u64 v1590 = sys_rattle_alloc(v1588, 8);
-    if (!(v1590._0 & 1)) goto v1587;
-    u64 v1594 = v1590._1;
-    u8 *v1595 = (u8 *)v1594;
-    if ((v1594 - ((u64)v1580)) < v1588) v1605 = 0; else { v1600 = v1582; v1601 = v1580; v1602 = v1595; v1603 = v1588; goto v1573; }
-v1599:;
-    u64 v1607 = v1605 << 4;
-    memmove(v1595 + v1607, v1580 + v1607, 16u);
-    u64 v1606 = v1605 + 1;
-    if (v1606 == v1582) { v1611 = v1595; v1612 = v1582; goto v1604; }
-    v1605 = v1606; goto v1599;
-v1573:;
-    memmove_any(v1602, v1601, v1603);
-    v1611 = v1602; v1612 = v1600;
-v1604:;
-    at(ptr, v26) = v1611;
-    at(u64, v26 + 8) = v1612;
-    at(u64, v26 + 16) = v1612;
-    u8 *v1615 = at(ptr, v1054 + 16);
-    u64 v1616 = at(u64, v1054 + 24);
-    v1618 = v1615; v1621 = v1616;
-v1617:;
-    if (v1621 == 0) { v1672 = v1616; v1673 = v1615; v1674 = v1612; v1675 = v1612; v1676 = v1611; goto v1624; }
-    if (!core_cmp_bytes_equal(at(ptr_1, v1618), at(u64_1, v1618 + 8), (u8 *)text_unicodes_file, 13u)) { v1618 = v1618 + 104; v1621 = v1621 - 1; goto v1617; }
-    u8 *v1631 = at(ptr, v1618 + 48);
-    u64 v1633 = at(u64, v1618 + 56);
-    if (v1633 == 0) { v1672 = v1616; v1673 = v1615; v1674 = v1612; v1675 = v1612; v1676 = v1611; goto v1624; }
-    v1636 = v1611; v1639 = v1612; v1641 = 0;
-v1635:;
-    u64 v1643 = v1641 << 4;
-    u8 *v1645 = at(ptr_1, v1631 + (i64)v1643);
-    u64 v1647 = at(u64_1, v1631 + (i64)v1643 + 8);
-    if (!(at(u64, v26 + 16) == v1639)) { v1637 = v1636; v1656 = v1639; goto v1638; }
-    if (!std_alloc_vec_Vec_grow_amortized_1c1d(v26, 1)) goto v1653;
-    v1637 = at(ptr, v26); v1656 = at(u64, v26 + 8); goto v1638;
-v1653:;
-    if (at(u64, v26 + 16) == 0) goto v1587;
+    v1955 = 0; v1956 = 0; v1957 = (u8 *)0; v1958 = 0; v1959 = 0; v1960 = 0; v1961 = 0; v1962 = 0; v1963 = 0; v1964 = (u8 *)0; v1965 = 0; v1966 = 0; v1967 = (u8 *)0; v1968 = 0; v1969 = (u8 *)0; v1970 = 0; v1971 = 0; v1972 = (u8 *)0; v1973 = 0; v1974 = 0; v1975 = (u8 *)0; v1976 = 0; v1977 = 0; v1978 = (u8 *)0; v1979 = 0; v1980 = 0; v1981 = (u8 *)0; v1982 = 0; v1983 = 0; v1984 = (u8 *)0; v1985 = 0; v1986 = 0; v1987 = 0; v1988 = 0; v1989 = 0; v1990 = 0; v1991 = 0; v1992 = 0; goto v1516;
+v1466:;
+    u8 *v1468 = at(ptr, v1450 + 48);
+    u8 v1469 = at(u8, v1468);
+    memcpy(v27, v1468 + 1, 15u);
+    v1472 = v1421; v1475 = v1423;
+v1471:;
+    if (v1475 == 0) { v1505 = 0; v1506 = v4; v1507 = v4; v1508 = 0; goto v1478; }
+    if (!core_cmp_bytes_equal(at(ptr_1, v1472), at(u64_1, v1472 + 8), (u8 *)text_text, 4)) { v1472 = v1472 + 104; v1475 = v1475 - 1; goto v1471; }
+    u8 *v1485 = at(ptr, v1472 + 48);
+    u64 v1487 = at(u64, v1472 + 56);
+    if (v1487 == 0) { v1505 = 0; v1506 = v1485; v1507 = v4; v1508 = 0; goto v1478; }
+    if (!(v1487 < 0x800000000000000u)) goto v1492;
+    u64 v1493 = v1487 << 4;
+    u64_u64 v1495 = sys_rattle_alloc(v1493, 8);
+    if (!(v1495._0 & 1)) goto v1492;
+    u64 v1499 = v1495._1;
+    u8 *v1500 = (u8 *)v1499;
+    if ((v1499 - ((u64)v1485)) < v1493) v1510 = 0; else { v1505 = v1487; v1506 = v1485; v1507 = v1500; v1508 = v1493; goto v1478; }
+v1504:;
+    u64 v1512 = v1510 << 4;
+    memmove(v1500 + v1512, v1485 + v1512, 16u);
+    u64 v1511 = v1510 + 1;
+    if (v1511 == v1487) { v1517 = v1500; v1518 = v1487; goto v1509; }
+    v1510 = v1511; goto v1504;
+v1478:;
+    memmove_any(v1507, v1506, v1508);
+    v1517 = v1507; v1518 = v1505;
+v1509:;
+    v1522 = at(ptr, v1054 + 16); v1525 = at(u64, v1054 + 24);
+v1521:;
+    if (v1525 == 0) { v1555 = 0; v1556 = v4; v1557 = v4; v1558 = 0; goto v1528; }
+    if (!core_cmp_bytes_equal(at(ptr_1, v1522), at(u64_1, v1522 + 8), (u8 *)text_text_file, 9)) { v1522 = v1522 + 104; v1525 = v1525 - 1; goto v1521; }
+    u8 *v1535 = at(ptr, v1522 + 48);
+    u64 v1537 = at(u64, v1522 + 56);
+    if (v1537 == 0) { v1555 = 0; v1556 = v1535; v1557 = v4; v1558 = 0; goto v1528; }
+    if (!(v1537 < 0x800000000000000u)) goto v1542;
+    u64 v1543 = v1537 << 4;
+    u64_u64 v1545 = sys_rattle_alloc(v1543, 8);
+    if (!(v1545._0 & 1)) goto v1542;
+    u64 v1549 = v1545._1;
+    u8 *v1550 = (u8 *)v1549;
+    if ((v1549 - ((u64)v1535)) < v1543) v1560 = 0; else { v1555 = v1537; v1556 = v1535; v1557 = v1550; v1558 = v1543; goto v1528; }
+v1554:;
+    u64 v1562 = v1560 << 4;
+    memmove(v1550 + v1562, v1535 + v1562, 16u);
+    u64 v1561 = v1560 + 1;
+    if (v1561 == v1537) { v1566 = v1550; v1567 = v1537; goto v1559; }
+    v1560 = v1561; goto v1554;
+v1528:;
+    memmove_any(v1557, v1556, v1558);
+    v1566 = v1557; v1567 = v1555;
+v1559:;
+    v1571 = at(ptr, v1054 + 16); v1574 = at(u64, v1054 + 24);
+v1570:;
+    if (v1574 == 0) { v1604 = 0; v1605 = v4; v1606 = v4; v1607 = 0; goto v1577; }
+    if (!core_cmp_bytes_equal(at(ptr_1, v1571), at(u64_1, v1571 + 8), (u8 *)text_codes_file, 10u)) { v1571 = v1571 + 104; v1574 = v1574 - 1; goto v1570; }
+    u8 *v1584 = at(ptr, v1571 + 48);
+    u64 v1586 = at(u64, v1571 + 56);
+    if (v1586 == 0) { v1604 = 0; v1605 = v1584; v1606 = v4; v1607 = 0; goto v1577; }
+    if (!(v1586 < 0x800000000000000u)) goto v1591;
+    u64 v1592 = v1586 << 4;
+    u64_u64 v1594 = sys_rattle_alloc(v1592, 8);
+    if (!(v1594._0 & 1)) goto v1591;
+    u64 v1598 = v1594._1;
+    u8 *v1599 = (u8 *)v1598;
+    if ((v1598 - ((u64)v1584)) < v1592) v1609 = 0; else { v1604 = v1586; v1605 = v1584; v1606 = v1599; v1607 = v1592; goto v1577; }
+v1603:;
+    u64 v1611 = v1609 << 4;
+    memmove(v1599 + v1611, v1584 + v1611, 16u);
+    u64 v1610 = v1609 + 1;
+    if (v1610 == v1586) { v1615 = v1599; v1616 = v1586; goto v1608; }
+    v1609 = v1610; goto v1603;
+v1577:;
+    memmove_any(v1606, v1605, v1607);
+    v1615 = v1606; v1616 = v1604;
+v1608:;
+    at(ptr, v26) = v1615;
+    at(u64, v26 + 8) = v1616;
+    at(u64, v26 + 16) = v1616;
+    u8 *v1619 = at(ptr, v1054 + 16);
+    u64 v1620 = at(u64, v1054 + 24);
+    v1622 = v1619; v1625 = v1620;
+v1621:;
+    if (v1625 == 0) { v1676 = v1620; v1677 = v1619; v1678 = v1616; v1679 = v1616; v1680 = v1615; goto v1628; }
+    if (!core_cmp_bytes_equal(at(ptr_1, v1622), at(u64_1, v1622 + 8), (u8 *)text_unicodes_file, 13u)) { v1622 = v1622 + 104; v1625 = v1625 - 1; goto v1621; }
+    u8 *v1635 = at(ptr, v1622 + 48);
+    u64 v1637 = at(u64, v1622 + 56);
+    if (v1637 == 0) { v1676 = v1620; v1677 = v1619; v1678 = v1616; v1679 = v1616; v1680 = v1615; goto v1628; }
+    v1640 = v1615; v1643 = v1616; v1645 = 0;
+v1639:;
+    u64 v1647 = v1645 << 4;
+    u8 *v1649 = at(ptr_1, v1635 + (i64)v1647);
+    u64 v1651 = at(u64_1, v1635 + (i64)v1647 + 8);
+    if (!(at(u64, v26 + 16) == v1643)) { v1641 = v1640; v1660 = v1643; goto v1642; }
+    if (!std_alloc_vec_Vec_grow_amortized_1c1d(v26, 1)) goto v1657;
+    v1641 = at(ptr, v26); v1660 = at(u64, v26 + 8); goto v1642;
+v1657:;
+    if (at(u64, v26 + 16) == 0) goto v1591;
     sys_rattle_dealloc(at(ptr, v26));
-    goto v1587;
-v1638:;
-    u64 v1657 = v1656 << 4;
-    at(ptr_1, v1637 + v1657) = v1645;
-    at(u64_1, v1637 + v1657 + 8) = v1647;
-    u64 v1640 = v1656 + 1;
-    at(u64, v26 + 8) = v1640;
-    u64 v1642 = v1641 + 1;
-    if (!(v1642 == v1633)) { v1636 = v1637; v1639 = v1640; v1641 = v1642; goto v1635; }
-    v1672 = at(u64, v1054 + 24); v1673 = at(ptr, v1054 + 16); v1674 = at(u64, v26 + 16); v1675 = v1640; v1676 = at(ptr, v26);
-v1624:;
-    v1678 = v1673; v1681 = v1672;
-v1677:;
-    if (v1681 == 0) { v1711 = 0; v1712 = v4; v1713 = v4; v1714 = 0; goto v1684; }
-    if (!core_cmp_bytes_equal(at(ptr_1, v1678), at(u64_1, v1678 + 8), (u8 *)text_WORDS, 5)) { v1678 = v1678 + 104; v1681 = v1681 - 1; goto v1677; }
-    u8 *v1691 = at(ptr, v1678 + 48);
-    u64 v1693 = at(u64, v1678 + 56);
-    if (v1693 == 0) { v1711 = 0; v1712 = v1691; v1713 = v4; v1714 = 0; goto v1684; }
-    if (!(v1693 < 0x800000000000000u)) goto v1698;
-    u64 v1699 = v1693 << 4;
-    u64_u64 v1701 = sys_rattle_alloc(v1699, 8);
-    if (!(v1701._0 & 1)) goto v1698;
-    u64 v1705 = v1701._1;
-    u8 *v1706 = (u8 *)v1705;
-    if ((v1705 - ((u64)v1691)) < v1699) v1716 = 0; else { v1711 = v1693; v1712 = v1691; v1713 = v1706; v1714 = v1699; goto v1684; }
-v1710:;
-    u64 v1718 = v1716 << 4;
-    memmove(v1706 + v1718, v1691 + v1718, 16u);
-    u64 v1717 = v1716 + 1;
-    if (v1717 == v1693) { v1726 = v1706; v1727 = v1693; goto v1715; }
-    v1716 = v1717; goto v1710;
-v1684:;
-    memmove_any(v1713, v1712, v1714);
-    v1726 = v1713; v1727 = v1711;
-v1715:;
+    goto v1591;
+v1642:;
+    u64 v1661 = v1660 << 4;
+    at(ptr_1, v1641 + v1661) = v1649;
+    at(u64_1, v1641 + v1661 + 8) = v1651;
+    u64 v1644 = v1660 + 1;
+    at(u64, v26 + 8) = v1644;
+    u64 v1646 = v1645 + 1;
+    if (!(v1646 == v1637)) { v1640 = v1641; v1643 = v1644; v1645 = v1646; goto v1639; }
+    v1676 = at(u64, v1054 + 24); v1677 = at(ptr, v1054 + 16); v1678 = at(u64, v26 + 16); v1679 = v1644; v1680 = at(ptr, v26);
+v1628:;
+    v1682 = v1677; v1685 = v1676;
+v1681:;
+    if (v1685 == 0) { v1715 = 0; v1716 = v4; v1717 = v4; v1718 = 0; goto v1688; }
+    if (!core_cmp_bytes_equal(at(ptr_1, v1682), at(u64_1, v1682 + 8), (u8 *)text_WORDS, 5)) { v1682 = v1682 + 104; v1685 = v1685 - 1; goto v1681; }
+    u8 *v1695 = at(ptr, v1682 + 48);
+    u64 v1697 = at(u64, v1682 + 56);
+    if (v1697 == 0) { v1715 = 0; v1716 = v1695; v1717 = v4; v1718 = 0; goto v1688; }
+    if (!(v1697 < 0x800000000000000u)) goto v1702;
+    u64 v1703 = v1697 << 4;
+    u64_u64 v1705 = sys_rattle_alloc(v1703, 8);
+    if (!(v1705._0 & 1)) goto v1702;
+    u64 v1709 = v1705._1;
+    u8 *v1710 = (u8 *)v1709;
+    if ((v1709 - ((u64)v1695)) < v1703) v1720 = 0; else { v1715 = v1697; v1716 = v1695; v1717 = v1710; v1718 = v1703; goto v1688; }
+v1714:;
+    u64 v1722 = v1720 << 4;
+    memmove(v1710 + v1722, v1695 + v1722, 16u);
+    u64 v1721 = v1720 + 1;
+    if (v1721 == v1697) { v1730 = v1710; v1731 = v1697; goto v1719; }
+    v1720 = v1721; goto v1714;
+v1688:;
+    memmove_any(v1717, v1716, v1718);
+    v1730 = v1717; v1731 = v1715;
+v1719:;
     command_line_values_of(v28, v1054 + 16, (u8 *)text_unicodes_39731a59, 8);
-    if (!(at(u8, v28) == 0)) goto v1731;
-    u8 *v1740 = at(ptr, v28 + 8);
-    u64 v1742 = at(u64, v28 + 16);
-    u64 v1744 = at(u64, v28 + 24);
+    if (!(at(u8, v28) == 0)) goto v1735;
+    u8 *v1744 = at(ptr, v28 + 8);
+    u64 v1746 = at(u64, v28 + 16);
+    u64 v1748 = at(u64, v28 + 24);
     command_line_values_of(v29, v1054 + 16, (u8 *)text_complete_f7d68267, 8);
-    if (!(at(u8, v29) == 0)) goto v1748;
-    u8 *v1760 = at(ptr, v29 + 8);
-    u64 v1762 = at(u64, v29 + 16);
-    u64 v1764 = at(u64, v29 + 24);
+    if (!(at(u8, v29) == 0)) goto v1752;
+    u8 *v1764 = at(ptr, v29 + 8);
+    u64 v1766 = at(u64, v29 + 16);
+    u64 v1768 = at(u64, v29 + 24);
     command_line_values_of(v30, v1054 + 16, (u8 *)text_exclude, 7);
-    if (!(at(u8, v30) == 0)) goto v1768;
-    u8 *v1783 = at(ptr, v30 + 8);
-    u64 v1785 = at(u64, v30 + 16);
-    u64 v1787 = at(u64, v30 + 24);
+    if (!(at(u8, v30) == 0)) goto v1772;
+    u8 *v1787 = at(ptr, v30 + 8);
+    u64 v1789 = at(u64, v30 + 16);
+    u64 v1791 = at(u64, v30 + 24);
     command_line_values_of(v31, v1054 + 16, (u8 *)text_exclude_file, 12u);
-    if (!(at(u8, v31) == 0)) goto v1791;
-    u8 *v1809 = at(ptr, v31 + 8);
-    u64 v1811 = at(u64, v31 + 16);
-    u64 v1813 = at(u64, v31 + 24);
+    if (!(at(u8, v31) == 0)) goto v1795;
+    u8 *v1813 = at(ptr, v31 + 8);
+    u64 v1815 = at(u64, v31 + 16);
+    u64 v1817 = at(u64, v31 + 24);
     command_line_values_of(v32, v1054 + 16, (u8 *)text_gids_205458be, 4);
-    if (!(at(u8, v32) == 0)) goto v1817;
-    u8 *v1838 = at(ptr, v32 + 8);
-    u64 v1840 = at(u64, v32 + 16);
-    u64 v1842 = at(u64, v32 + 24);
+    if (!(at(u8, v32) == 0)) goto v1821;
+    u8 *v1842 = at(ptr, v32 + 8);
+    u64 v1844 = at(u64, v32 + 16);
+    u64 v1846 = at(u64, v32 + 24);
     command_line_values_of(v33, v1054 + 16, (u8 *)text_gids_file, 9);
-    if (!(at(u8, v33) == 0)) goto v1846;
-    u8 *v1870 = at(ptr, v33 + 8);
-    u64 v1872 = at(u64, v33 + 16);
-    u64 v1874 = at(u64, v33 + 24);
-    flag v1875 = clap_parser_matches_ArgMatches_get_flag(v1054 + 16, (u8 *)text_report, 6);
-    flag v1876 = clap_parser_matches_ArgMatches_get_flag(v1054 + 16, (u8 *)text_strict, 6);
-    flag v1877 = clap_parser_matches_ArgMatches_get_flag(v1054 + 16, (u8 *)text_exactly, 7);
-    u8 v1878 = command_line_cut_kind(v1054 + 16);
-    flag v1879 = clap_parser_matches_ArgMatches_get_flag(v1054 + 16, (u8 *)text_no_layout_closure, 17u);
+    if (!(at(u8, v33) == 0)) goto v1850;
+    u8 *v1874 = at(ptr, v33 + 8);
+    u64 v1876 = at(u64, v33 + 16);
+    u64 v1878 = at(u64, v33 + 24);
+    flag v1879 = clap_parser_matches_ArgMatches_get_flag(v1054 + 16, (u8 *)text_report, 6);
+    flag v1880 = clap_parser_matches_ArgMatches_get_flag(v1054 + 16, (u8 *)text_strict, 6);
+    flag v1881 = clap_parser_matches_ArgMatches_get_flag(v1054 + 16, (u8 *)text_exactly, 7);
+    u8 v1882 = command_line_cut_kind(v1054 + 16);
+    flag v1883 = clap_parser_matches_ArgMatches_get_flag(v1054 + 16, (u8 *)text_no_layout_closure, 17u);
     command_line_values_of(v34, v1054 + 16, (u8 *)text_drop, 4);
-    if (!(at(u8, v34) == 0)) goto v1883;
-    flag v1915 = clap_parser_matches_ArgMatches_get_flag(v1054 + 16, (u8 *)text_force, 5);
+    if (!(at(u8, v34) == 0)) goto v1887;
+    flag v1919 = clap_parser_matches_ArgMatches_get_flag(v1054 + 16, (u8 *)text_force, 5);
     memcpy(v35 + 3, v34 + 8, 24u);
     memcpy(v40, v27, 15u);
     memcpy(v41, v35, 27u);
-    v1951 = v1465; v1952 = v1442; v1953 = v1443; v1954 = 1; v1955 = 4; v1956 = (u64)v1513; v1957 = v1514; v1958 = (u64)v1562; v1959 = v1563; v1960 = v1676; v1961 = v1675; v1962 = v1674; v1963 = v1726; v1964 = v1727; v1965 = v1740; v1966 = v1742; v1967 = v1744; v1968 = v1760; v1969 = v1762; v1970 = v1764; v1971 = v1783; v1972 = v1785; v1973 = v1787; v1974 = v1809; v1975 = v1811; v1976 = v1813; v1977 = v1838; v1978 = v1840; v1979 = v1842; v1980 = v1870; v1981 = v1872; v1982 = v1874; v1983 = (u8)v1875; v1984 = (u8)v1876; v1985 = (u8)v1877; v1986 = v1878; v1987 = (u8)(!v1879); v1988 = (((u64)v1197) << 8) | ((u64)v1915);
-v1512:;
+    v1955 = v1469; v1956 = v1446; v1957 = v1447; v1958 = 1; v1959 = 4; v1960 = (u64)v1517; v1961 = v1518; v1962 = (u64)v1566; v1963 = v1567; v1964 = v1680; v1965 = v1679; v1966 = v1678; v1967 = v1730; v1968 = v1731; v1969 = v1744; v1970 = v1746; v1971 = v1748; v1972 = v1764; v1973 = v1766; v1974 = v1768; v1975 = v1787; v1976 = v1789; v1977 = v1791; v1978 = v1813; v1979 = v1815; v1980 = v1817; v1981 = v1842; v1982 = v1844; v1983 = v1846; v1984 = v1874; v1985 = v1876; v1986 = v1878; v1987 = (u8)v1879; v1988 = (u8)v1880; v1989 = (u8)v1881; v1990 = v1882; v1991 = (u8)(!v1883); v1992 = (((u64)v1197) << 8) | ((u64)v1919);
+v1516:;
     memcpy(v37, v40, 15u);
     memcpy(v38, v41, 27u);
-    v2193 = ((u64)(v1956 >> 16u)) & 0xffffffffffffu; v2194 = v1959; v2195 = v1959; v2196 = v1960; v2197 = v1961; v2198 = v1962; v2199 = v1963; v2200 = v1964; v2201 = v1964; v2202 = v1965; v2203 = v1966; v2204 = v1967; v2205 = v1968; v2206 = v1969; v2207 = v1970; v2208 = v1971; v2209 = v1972; v2210 = v1973; v2211 = v1974; v2212 = v1975; v2213 = v1976; v2214 = v1977; v2215 = v1978; v2216 = v1979; v2217 = v1980; v2218 = v1981; v2219 = v1982; v2220 = v1983; v2221 = v1984; v2222 = v1985; v2223 = v1986; v2224 = v1987; v2225 = v1988; v2226 = (u8)v1956; v2227 = (u8)(v1956 >> 8); v2228 = (u8 *)v1957; v2229 = v1957; v2230 = v1958; v2231 = v1954; v2232 = v1955; v2233 = v1953; v2234 = v1952; v2235 = v1951; goto v1229;
-v1883:;
-    if (v1874 == 0) goto v1924;
-    sys_rattle_dealloc(v1870);
-v1924:;
-    if (v1842 == 0) goto v1927;
-    sys_rattle_dealloc(v1838);
-v1927:;
-    if (v1813 == 0) goto v1930;
-    sys_rattle_dealloc(v1809);
-v1930:;
-    if (v1787 == 0) goto v1933;
-    sys_rattle_dealloc(v1783);
-v1933:;
-    if (v1764 == 0) goto v1936;
-    sys_rattle_dealloc(v1760);
-v1936:;
-    if (v1744 == 0) goto v1939;
-    sys_rattle_dealloc(v1740);
-v1939:;
-    if (v1727 == 0) goto v1942;
-    sys_rattle_dealloc(v1726);
-v1942:;
-    if (v1674 == 0) goto v1945;
-    sys_rattle_dealloc(v1676);
-v1945:;
-    if (v1563 == 0) goto v1948;
-    sys_rattle_dealloc(v1562);
-v1948:;
-    if (v1514 == 0) goto v1488;
-    goto v1667;
-v1846:;
-    if (v1842 == 0) goto v1885;
-    sys_rattle_dealloc(v1838);
-v1885:;
-    if (v1813 == 0) goto v1888;
-    sys_rattle_dealloc(v1809);
-v1888:;
-    if (v1787 == 0) goto v1891;
-    sys_rattle_dealloc(v1783);
-v1891:;
-    if (v1764 == 0) goto v1894;
-    sys_rattle_dealloc(v1760);
-v1894:;
-    if (v1744 == 0) goto v1897;
-    sys_rattle_dealloc(v1740);
-v1897:;
-    if (v1727 == 0) goto v1900;
-    sys_rattle_dealloc(v1726);
-v1900:;
-    if (v1674 == 0) goto v1903;
-    sys_rattle_dealloc(v1676);
-v1903:;
-    if (v1563 == 0) goto v1906;
-    sys_rattle_dealloc(v1562);
-v1906:;
-    if (v1514 == 0) goto v1488;
-    goto v1667;
-v1817:;
-    if (v1813 == 0) goto v1848;
-    sys_rattle_dealloc(v1809);
-v1848:;
-    if (v1787 == 0) goto v1851;
-    sys_rattle_dealloc(v1783);
-v1851:;
-    if (v1764 == 0) goto v1854;
-    sys_rattle_dealloc(v1760);
-v1854:;
-    if (v1744 == 0) goto v1857;
-    sys_rattle_dealloc(v1740);
-v1857:;
-    if (v1727 == 0) goto v1860;
-    sys_rattle_dealloc(v1726);
-v1860:;
-    if (v1674 == 0) goto v1863;
-    sys_rattle_dealloc(v1676);
-v1863:;
-    if (v1563 == 0) goto v1866;
-    sys_rattle_dealloc(v1562);
-v1866:;
-    if (v1514 == 0) goto v1488;
-    goto v1667;
-v1791:;
-    if (v1787 == 0) goto v1819;
-    sys_rattle_dealloc(v1783);
-v1819:;
-    if (v1764 == 0) goto v1822;
-    sys_rattle_dealloc(v1760);
-v1822:;
-    if (v1744 == 0) goto v1825;
-    sys_rattle_dealloc(v1740);
-v1825:;
-    if (v1727 == 0) goto v1828;
-    sys_rattle_dealloc(v1726);
-v1828:;
-    if (v1674 == 0) goto v1831;
-    sys_rattle_dealloc(v1676);
-v1831:;
-    if (v1563 == 0) goto v1834;
-    sys_rattle_dealloc(v1562);
-v1834:;
-    if (v1514 == 0) goto v1488;
-    goto v1667;
-v1768:;
-    if (v1764 == 0) goto v1793;
-    sys_rattle_dealloc(v1760);
-v1793:;
-    if (v1744 == 0) goto v1796;
-    sys_rattle_dealloc(v1740);
-v1796:;
-    if (v1727 == 0) goto v1799;
-    sys_rattle_dealloc(v1726);
-v1799:;
-    if (v1674 == 0) goto v1802;
-    sys_rattle_dealloc(v1676);
-v1802:;
-    if (v1563 == 0) goto v1805;
-    sys_rattle_dealloc(v1562);
-v1805:;
-    if (v1514 == 0) goto v1488;
-    goto v1667;
-v1748:;
-    if (v1744 == 0) goto v1770;
-    sys_rattle_dealloc(v1740);
-v1770:;
-    if (v1727 == 0) goto v1773;
-    sys_rattle_dealloc(v1726);
-v1773:;
-    if (v1674 == 0) goto v1776;
-    sys_rattle_dealloc(v1676);
-v1776:;
-    if (v1563 == 0) goto v1779;
-    sys_rattle_dealloc(v1562);
-v1779:;
-    if (v1514 == 0) goto v1488;
-    goto v1667;
-v1731:;
-    if (v1727 == 0) goto v1750;
-    sys_rattle_dealloc(v1726);
-v1750:;
-    if (v1674 == 0) goto v1753;
-    sys_rattle_dealloc(v1676);
-v1753:;
-    if (v1563 == 0) goto v1756;
-    sys_rattle_dealloc(v1562);
-v1756:;
-    if (v1514 == 0) goto v1488;
-    goto v1667;
-v1698:;
-    if (v1674 == 0) goto v1733;
-    sys_rattle_dealloc(v1676);
-v1733:;
-    if (v1563 == 0) goto v1736;
-    sys_rattle_dealloc(v1562);
-v1736:;
-    if (v1514 == 0) goto v1488;
-    goto v1667;
-v1587:;
-    if (v1563 == 0) goto v1723;
-    sys_rattle_dealloc(v1562);
-v1723:;
-    if (v1514 == 0) goto v1488;
-    goto v1667;
-v1538:;
-    if (v1514 == 0) goto v1488;
-v1667:;
-    sys_rattle_dealloc(v1513);
-v1488:;
-    v2334 = at(u64, v152 + 16); goto v1413;
-v1416:;
-    if (!core_cmp_bytes_equal(v1185, v1187, (u8 *)text_slice_07e3c19a, 5)) goto v1999;
+    v2197 = ((u64)(v1960 >> 16u)) & 0xffffffffffffu; v2198 = v1963; v2199 = v1963; v2200 = v1964; v2201 = v1965; v2202 = v1966; v2203 = v1967; v2204 = v1968; v2205 = v1968; v2206 = v1969; v2207 = v1970; v2208 = v1971; v2209 = v1972; v2210 = v1973; v2211 = v1974; v2212 = v1975; v2213 = v1976; v2214 = v1977; v2215 = v1978; v2216 = v1979; v2217 = v1980; v2218 = v1981; v2219 = v1982; v2220 = v1983; v2221 = v1984; v2222 = v1985; v2223 = v1986; v2224 = v1987; v2225 = v1988; v2226 = v1989; v2227 = v1990; v2228 = v1991; v2229 = v1992; v2230 = (u8)v1960; v2231 = (u8)(v1960 >> 8); v2232 = (u8 *)v1961; v2233 = v1961; v2234 = v1962; v2235 = v1958; v2236 = v1959; v2237 = v1957; v2238 = v1956; v2239 = v1955; goto v1229;
+v1887:;
+    if (v1878 == 0) goto v1928;
+    sys_rattle_dealloc(v1874);
+v1928:;
+    if (v1846 == 0) goto v1931;
+    sys_rattle_dealloc(v1842);
+v1931:;
+    if (v1817 == 0) goto v1934;
+    sys_rattle_dealloc(v1813);
+v1934:;
+    if (v1791 == 0) goto v1937;
+    sys_rattle_dealloc(v1787);
+v1937:;
+    if (v1768 == 0) goto v1940;
+    sys_rattle_dealloc(v1764);
+v1940:;
+    if (v1748 == 0) goto v1943;
+    sys_rattle_dealloc(v1744);
+v1943:;
+    if (v1731 == 0) goto v1946;
+    sys_rattle_dealloc(v1730);
+v1946:;
+    if (v1678 == 0) goto v1949;
+    sys_rattle_dealloc(v1680);
+v1949:;
+    if (v1567 == 0) goto v1952;
+    sys_rattle_dealloc(v1566);
+v1952:;
+    if (v1518 == 0) goto v1492;
+    goto v1671;
+v1850:;
+    if (v1846 == 0) goto v1889;
+    sys_rattle_dealloc(v1842);
+v1889:;
+    if (v1817 == 0) goto v1892;
+    sys_rattle_dealloc(v1813);
+v1892:;
+    if (v1791 == 0) goto v1895;
+    sys_rattle_dealloc(v1787);
+v1895:;
+    if (v1768 == 0) goto v1898;
+    sys_rattle_dealloc(v1764);
+v1898:;
+    if (v1748 == 0) goto v1901;
+    sys_rattle_dealloc(v1744);
+v1901:;
+    if (v1731 == 0) goto v1904;
+    sys_rattle_dealloc(v1730);
+v1904:;
+    if (v1678 == 0) goto v1907;
+    sys_rattle_dealloc(v1680);
+v1907:;
+    if (v1567 == 0) goto v1910;
+    sys_rattle_dealloc(v1566);
+v1910:;
+    if (v1518 == 0) goto v1492;
+    goto v1671;
+v1821:;
+    if (v1817 == 0) goto v1852;
+    sys_rattle_dealloc(v1813);
+v1852:;
+    if (v1791 == 0) goto v1855;
+    sys_rattle_dealloc(v1787);
+v1855:;
+    if (v1768 == 0) goto v1858;
+    sys_rattle_dealloc(v1764);
+v1858:;
+    if (v1748 == 0) goto v1861;
+    sys_rattle_dealloc(v1744);
+v1861:;
+    if (v1731 == 0) goto v1864;
+    sys_rattle_dealloc(v1730);
+v1864:;
+    if (v1678 == 0) goto v1867;
+    sys_rattle_dealloc(v1680);
+v1867:;
+    if (v1567 == 0) goto v1870;
+    sys_rattle_dealloc(v1566);
+v1870:;
+    if (v1518 == 0) goto v1492;
+    goto v1671;
+v1795:;
+    if (v1791 == 0) goto v1823;
+    sys_rattle_dealloc(v1787);
+v1823:;
+    if (v1768 == 0) goto v1826;
+    sys_rattle_dealloc(v1764);
+v1826:;
+    if (v1748 == 0) goto v1829;
+    sys_rattle_dealloc(v1744);
+v1829:;
+    if (v1731 == 0) goto v1832;
+    sys_rattle_dealloc(v1730);
+v1832:;
+    if (v1678 == 0) goto v1835;
+    sys_rattle_dealloc(v1680);
+v1835:;
+    if (v1567 == 0) goto v1838;
+    sys_rattle_dealloc(v1566);
+v1838:;
+    if (v1518 == 0) goto v1492;
+    goto v1671;
+v1772:;
+    if (v1768 == 0) goto v1797;
+    sys_rattle_dealloc(v1764);
+v1797:;
+    if (v1748 == 0) goto v1800;
+    sys_rattle_dealloc(v1744);
+v1800:;
+    if (v1731 == 0) goto v1803;
+    sys_rattle_dealloc(v1730);
+v1803:;
+    if (v1678 == 0) goto v1806;
+    sys_rattle_dealloc(v1680);
+v1806:;
+    if (v1567 == 0) goto v1809;
+    sys_rattle_dealloc(v1566);
+v1809:;
+    if (v1518 == 0) goto v1492;
+    goto v1671;
+v1752:;
+    if (v1748 == 0) goto v1774;
+    sys_rattle_dealloc(v1744);
+v1774:;
+    if (v1731 == 0) goto v1777;
+    sys_rattle_dealloc(v1730);
+v1777:;
+    if (v1678 == 0) goto v1780;
+    sys_rattle_dealloc(v1680);
+v1780:;
+    if (v1567 == 0) goto v1783;
+    sys_rattle_dealloc(v1566);
+v1783:;
+    if (v1518 == 0) goto v1492;
+    goto v1671;
+v1735:;
+    if (v1731 == 0) goto v1754;
+    sys_rattle_dealloc(v1730);
+v1754:;
+    if (v1678 == 0) goto v1757;
+    sys_rattle_dealloc(v1680);
+v1757:;
+    if (v1567 == 0) goto v1760;
+    sys_rattle_dealloc(v1566);
+v1760:;
+    if (v1518 == 0) goto v1492;
+    goto v1671;
+v1702:;
+    if (v1678 == 0) goto v1737;
+    sys_rattle_dealloc(v1680);
+v1737:;
+    if (v1567 == 0) goto v1740;
+    sys_rattle_dealloc(v1566);
+v1740:;
+    if (v1518 == 0) goto v1492;
+    goto v1671;
+v1591:;
+    if (v1567 == 0) goto v1727;
+    sys_rattle_dealloc(v1566);
+v1727:;
+    if (v1518 == 0) goto v1492;
+    goto v1671;
+v1542:;
+    if (v1518 == 0) goto v1492;
+v1671:;
+    sys_rattle_dealloc(v1517);
+v1492:;
+    v2338 = at(u64, v152 + 16); goto v1417;
+v1420:;
+    if (!core_cmp_bytes_equal(v1185, v1187, (u8 *)text_slice_07e3c19a, 5)) goto v2003;
     command_line_slice_task(v42, v1054 + 16, v1197);
-    if (!(at(u8, v42) == 0)) { v2334 = v1041; goto v1413; }
-    u8 v2004 = at(u8, v42 + 16);
-    u8 v2006 = at(u8, v42 + 8);
-    u8 *v2008 = at(ptr, v42 + 24);
-    u64 v2010 = at(u64, v42 + 32);
-    u8 v2012 = at(u8, v42 + 40);
-    u8 v2015 = at(u8, v42 + 56);
-    u8 v2017 = at(u8, v42 + 57);
-    u64 v2019 = load48(v42 + 58);
-    u8 *v2021 = at(ptr, v42 + 64);
-    u64 v2023 = at(u64, v42 + 72);
-    u64 v2025 = at(u64, v42 + 80);
-    u64 v2027 = at(u64, v42 + 88);
-    u64 v2029 = at(u64, v42 + 96);
-    u8 *v2031 = at(ptr, v42 + 104);
-    u64 v2033 = at(u64, v42 + 112);
-    u64 v2035 = at(u64, v42 + 120);
-    u8 *v2037 = at(ptr, v42 + 128);
-    u64 v2039 = at(u64, v42 + 136);
-    u64 v2041 = at(u64, v42 + 144);
-    u8 *v2043 = at(ptr, v42 + 152);
-    u64 v2045 = at(u64, v42 + 160);
-    u64 v2047 = at(u64, v42 + 168);
-    u8 *v2049 = at(ptr, v42 + 176);
-    u64 v2051 = at(u64, v42 + 184);
-    u64 v2053 = at(u64, v42 + 192);
-    u8 *v2055 = at(ptr, v42 + 200);
-    u64 v2057 = at(u64, v42 + 208);
-    u64 v2059 = at(u64, v42 + 216);
-    u8 *v2061 = at(ptr, v42 + 224);
-    u64 v2063 = at(u64, v42 + 232);
-    u64 v2065 = at(u64, v42 + 240);
-    u8 *v2067 = at(ptr, v42 + 248);
-    u64 v2069 = at(u64, v42 + 256);
-    u64 v2071 = at(u64, v42 + 264);
-    u8 *v2073 = at(ptr, v42 + 272);
-    u64 v2075 = at(u64, v42 + 280);
-    u64 v2077 = at(u64, v42 + 288);
-    u8 v2079 = at(u8, v42 + 296);
-    u8 v2081 = at(u8, v42 + 297);
-    u8 v2083 = at(u8, v42 + 298);
-    u8 v2085 = at(u8, v42 + 299);
-    u8 v2087 = at(u8, v42 + 300);
-    u64 v2090 = at(u64, v42 + 328);
+    if (!(at(u8, v42) == 0)) { v2338 = v1041; goto v1417; }
+    u8 v2008 = at(u8, v42 + 16);
+    u8 v2010 = at(u8, v42 + 8);
+    u8 *v2012 = at(ptr, v42 + 24);
+    u64 v2014 = at(u64, v42 + 32);
+    u8 v2016 = at(u8, v42 + 40);
+    u8 v2019 = at(u8, v42 + 56);
+    u8 v2021 = at(u8, v42 + 57);
+    u64 v2023 = load48(v42 + 58);
+    u8 *v2025 = at(ptr, v42 + 64);
+    u64 v2027 = at(u64, v42 + 72);
+    u64 v2029 = at(u64, v42 + 80);
+    u64 v2031 = at(u64, v42 + 88);
+    u64 v2033 = at(u64, v42 + 96);
+    u8 *v2035 = at(ptr, v42 + 104);
+    u64 v2037 = at(u64, v42 + 112);
+    u64 v2039 = at(u64, v42 + 120);
+    u8 *v2041 = at(ptr, v42 + 128);
+    u64 v2043 = at(u64, v42 + 136);
+    u64 v2045 = at(u64, v42 + 144);
+    u8 *v2047 = at(ptr, v42 + 152);
+    u64 v2049 = at(u64, v42 + 160);
+    u64 v2051 = at(u64, v42 + 168);
+    u8 *v2053 = at(ptr, v42 + 176);
+    u64 v2055 = at(u64, v42 + 184);
+    u64 v2057 = at(u64, v42 + 192);
+    u8 *v2059 = at(ptr, v42 + 200);
+    u64 v2061 = at(u64, v42 + 208);
+    u64 v2063 = at(u64, v42 + 216);
+    u8 *v2065 = at(ptr, v42 + 224);
+    u64 v2067 = at(u64, v42 + 232);
+    u64 v2069 = at(u64, v42 + 240);
+    u8 *v2071 = at(ptr, v42 + 248);
+    u64 v2073 = at(u64, v42 + 256);
+    u64 v2075 = at(u64, v42 + 264);
+    u8 *v2077 = at(ptr, v42 + 272);
+    u64 v2079 = at(u64, v42 + 280);
+    u64 v2081 = at(u64, v42 + 288);
+    u8 v2083 = at(u8, v42 + 296);
+    u8 v2085 = at(u8, v42 + 297);
+    u8 v2087 = at(u8, v42 + 298);
+    u8 v2089 = at(u8, v42 + 299);
+    u8 v2091 = at(u8, v42 + 300);
+    u64 v2094 = at(u64, v42 + 328);
     memcpy(v37, v42 + 41, 15u);
     memcpy(v38, v42 + 301, 27u);
-    v2193 = v2019; v2194 = v2027; v2195 = v2029; v2196 = v2031; v2197 = v2033; v2198 = v2035; v2199 = v2037; v2200 = v2039; v2201 = v2041; v2202 = v2043; v2203 = v2045; v2204 = v2047; v2205 = v2049; v2206 = v2051; v2207 = v2053; v2208 = v2055; v2209 = v2057; v2210 = v2059; v2211 = v2061; v2212 = v2063; v2213 = v2065; v2214 = v2067; v2215 = v2069; v2216 = v2071; v2217 = v2073; v2218 = v2075; v2219 = v2077; v2220 = v2079; v2221 = v2081; v2222 = v2083; v2223 = v2085; v2224 = v2087; v2225 = v2090; v2226 = v2015; v2227 = v2017; v2228 = v2021; v2229 = v2023; v2230 = v2025; v2231 = v2006; v2232 = v2004; v2233 = v2008; v2234 = v2010; v2235 = v2012; goto v1229;
-v1999:;
-    if (!core_cmp_bytes_equal(v1185, v1187, (u8 *)text_join_cb8780b7, 4)) goto v2093;
+    v2197 = v2023; v2198 = v2031; v2199 = v2033; v2200 = v2035; v2201 = v2037; v2202 = v2039; v2203 = v2041; v2204 = v2043; v2205 = v2045; v2206 = v2047; v2207 = v2049; v2208 = v2051; v2209 = v2053; v2210 = v2055; v2211 = v2057; v2212 = v2059; v2213 = v2061; v2214 = v2063; v2215 = v2065; v2216 = v2067; v2217 = v2069; v2218 = v2071; v2219 = v2073; v2220 = v2075; v2221 = v2077; v2222 = v2079; v2223 = v2081; v2224 = v2083; v2225 = v2085; v2226 = v2087; v2227 = v2089; v2228 = v2091; v2229 = v2094; v2230 = v2019; v2231 = v2021; v2232 = v2025; v2233 = v2027; v2234 = v2029; v2235 = v2010; v2236 = v2008; v2237 = v2012; v2238 = v2014; v2239 = v2016; goto v1229;
+v2003:;
+    if (!core_cmp_bytes_equal(v1185, v1187, (u8 *)text_join_cb8780b7, 4)) goto v2097;
     command_line_join_task(v43, v1054 + 16);
-    if (!(at(u8, v43) == 0)) { v2334 = v1041; goto v1413; }
-    u8 v2098 = at(u8, v43 + 16);
-    u8 v2100 = at(u8, v43 + 8);
-    u8 *v2102 = at(ptr, v43 + 24);
-    u64 v2104 = at(u64, v43 + 32);
-    u8 v2106 = at(u8, v43 + 40);
-    u8 v2109 = at(u8, v43 + 56);
-    u8 v2111 = at(u8, v43 + 57);
-    u64 v2113 = load48(v43 + 58);
-    u8 *v2115 = at(ptr, v43 + 64);
-    u64 v2117 = at(u64, v43 + 72);
-    u64 v2119 = at(u64, v43 + 80);
-    u64 v2121 = at(u64, v43 + 88);
-    u64 v2123 = at(u64, v43 + 96);
-    u8 *v2125 = at(ptr, v43 + 104);
-    u64 v2127 = at(u64, v43 + 112);
-    u64 v2129 = at(u64, v43 + 120);
-    u8 *v2131 = at(ptr, v43 + 128);
-    u64 v2133 = at(u64, v43 + 136);
-    u64 v2135 = at(u64, v43 + 144);
-    u8 *v2137 = at(ptr, v43 + 152);
-    u64 v2139 = at(u64, v43 + 160);
-    u64 v2141 = at(u64, v43 + 168);
-    u8 *v2143 = at(ptr, v43 + 176);
-    u64 v2145 = at(u64, v43 + 184);
-    u64 v2147 = at(u64, v43 + 192);
-    u8 *v2149 = at(ptr, v43 + 200);
-    u64 v2151 = at(u64, v43 + 208);
-    u64 v2153 = at(u64, v43 + 216);
-    u8 *v2155 = at(ptr, v43 + 224);
-    u64 v2157 = at(u64, v43 + 232);
-    u64 v2159 = at(u64, v43 + 240);
-    u8 *v2161 = at(ptr, v43 + 248);
-    u64 v2163 = at(u64, v43 + 256);
-    u64 v2165 = at(u64, v43 + 264);
-    u8 *v2167 = at(ptr, v43 + 272);
-    u64 v2169 = at(u64, v43 + 280);
-    u64 v2171 = at(u64, v43 + 288);
-    u8 v2173 = at(u8, v43 + 296);
-    u8 v2175 = at(u8, v43 + 297);
-    u8 v2177 = at(u8, v43 + 298);
-    u8 v2179 = at(u8, v43 + 299);
-    u8 v2181 = at(u8, v43 + 300);
-    u64 v2184 = at(u64, v43 + 328);
+    if (!(at(u8, v43) == 0)) { v2338 = v1041; goto v1417; }
+    u8 v2102 = at(u8, v43 + 16);
+    u8 v2104 = at(u8, v43 + 8);
+    u8 *v2106 = at(ptr, v43 + 24);
+    u64 v2108 = at(u64, v43 + 32);
+    u8 v2110 = at(u8, v43 + 40);
+    u8 v2113 = at(u8, v43 + 56);
+    u8 v2115 = at(u8, v43 + 57);
+    u64 v2117 = load48(v43 + 58);
+    u8 *v2119 = at(ptr, v43 + 64);
+    u64 v2121 = at(u64, v43 + 72);
+    u64 v2123 = at(u64, v43 + 80);
+    u64 v2125 = at(u64, v43 + 88);
+    u64 v2127 = at(u64, v43 + 96);
+    u8 *v2129 = at(ptr, v43 + 104);
+    u64 v2131 = at(u64, v43 + 112);
+    u64 v2133 = at(u64, v43 + 120);
+    u8 *v2135 = at(ptr, v43 + 128);
+    u64 v2137 = at(u64, v43 + 136);
+    u64 v2139 = at(u64, v43 + 144);
+    u8 *v2141 = at(ptr, v43 + 152);
+    u64 v2143 = at(u64, v43 + 160);
+    u64 v2145 = at(u64, v43 + 168);
+    u8 *v2147 = at(ptr, v43 + 176);
+    u64 v2149 = at(u64, v43 + 184);
+    u64 v2151 = at(u64, v43 + 192);
+    u8 *v2153 = at(ptr, v43 + 200);
+    u64 v2155 = at(u64, v43 + 208);
+    u64 v2157 = at(u64, v43 + 216);
+    u8 *v2159 = at(ptr, v43 + 224);
+    u64 v2161 = at(u64, v43 + 232);
+    u64 v2163 = at(u64, v43 + 240);
+    u8 *v2165 = at(ptr, v43 + 248);
+    u64 v2167 = at(u64, v43 + 256);
+    u64 v2169 = at(u64, v43 + 264);
+    u8 *v2171 = at(ptr, v43 + 272);
+    u64 v2173 = at(u64, v43 + 280);
+    u64 v2175 = at(u64, v43 + 288);
+    u8 v2177 = at(u8, v43 + 296);
+    u8 v2179 = at(u8, v43 + 297);
+    u8 v2181 = at(u8, v43 + 298);
+    u8 v2183 = at(u8, v43 + 299);
+    u8 v2185 = at(u8, v43 + 300);
+    u64 v2188 = at(u64, v43 + 328);
     memcpy(v37, v43 + 41, 15u);
     memcpy(v38, v43 + 301, 27u);
-    v2193 = v2113; v2194 = v2121; v2195 = v2123; v2196 = v2125; v2197 = v2127; v2198 = v2129; v2199 = v2131; v2200 = v2133; v2201 = v2135; v2202 = v2137; v2203 = v2139; v2204 = v2141; v2205 = v2143; v2206 = v2145; v2207 = v2147; v2208 = v2149; v2209 = v2151; v2210 = v2153; v2211 = v2155; v2212 = v2157; v2213 = v2159; v2214 = v2161; v2215 = v2163; v2216 = v2165; v2217 = v2167; v2218 = v2169; v2219 = v2171; v2220 = v2173; v2221 = v2175; v2222 = v2177; v2223 = v2179; v2224 = v2181; v2225 = v2184; v2226 = v2109; v2227 = v2111; v2228 = v2115; v2229 = v2117; v2230 = v2119; v2231 = v2100; v2232 = v2098; v2233 = v2102; v2234 = v2104; v2235 = v2106;
+    v2197 = v2117; v2198 = v2125; v2199 = v2127; v2200 = v2129; v2201 = v2131; v2202 = v2133; v2203 = v2135; v2204 = v2137; v2205 = v2139; v2206 = v2141; v2207 = v2143; v2208 = v2145; v2209 = v2147; v2210 = v2149; v2211 = v2151; v2212 = v2153; v2213 = v2155; v2214 = v2157; v2215 = v2159; v2216 = v2161; v2217 = v2163; v2218 = v2165; v2219 = v2167; v2220 = v2169; v2221 = v2171; v2222 = v2173; v2223 = v2175; v2224 = v2177; v2225 = v2179; v2226 = v2181; v2227 = v2183; v2228 = v2185; v2229 = v2188; v2230 = v2113; v2231 = v2115; v2232 = v2119; v2233 = v2121; v2234 = v2123; v2235 = v2104; v2236 = v2102; v2237 = v2106; v2238 = v2108; v2239 = v2110;
 v1229:;
     memcpy(v44, v37, 15u);
     memcpy(v45, v38, 27u);
-    if (v2231 == 1) { v2237 = v2235; v2238 = v2234; v2239 = v2233; v2240 = v2232; v2241 = v2230; v2242 = v2229; v2243 = v2228; v2244 = v2227; v2245 = v2226; v2246 = v2225; v2247 = v2224; v2248 = v2223; v2249 = v2222; v2250 = v2221; v2251 = v2220; v2252 = v2219; v2253 = v2218; v2254 = v2217; v2255 = v2216; v2256 = v2215; v2257 = v2214; v2258 = v2213; v2259 = v2212; v2260 = v2211; v2261 = v2210; v2262 = v2209; v2263 = v2208; v2264 = v2207; v2265 = v2206; v2266 = v2205; v2267 = v2204; v2268 = v2203; v2269 = v2202; v2270 = v2201; v2271 = v2200; v2272 = v2199; v2273 = v2198; v2274 = v2197; v2275 = v2196; v2276 = v2195; v2277 = v2194; v2278 = v2193; goto v2191; }
-    goto v2192;
-v1413:;
-    u8 *v2335 = at(ptr, v152);
-    u64 v2336 = at(u64, v152 + 8);
-    if (v2336 == 0) goto v2338;
-    v2340 = 0;
-v2339:;
-    u64 v2343 = v2340 * 104u;
-    u8 *v2348 = at(ptr_1, v2335 + v2343 + 48);
-    u64 v2350 = at(u64_1, v2335 + v2343 + 64);
-    u8 *v2352 = at(ptr_1, v2335 + v2343 + 72);
-    u64 v2354 = at(u64_1, v2335 + v2343 + 88);
-    if (at(u64_1, v2335 + v2343 + 40) == 0) goto v2356;
-    sys_rattle_dealloc(at(ptr_1, v2335 + v2343 + 24));
-v2356:;
-    if (v2350 == 0) goto v2361;
-    sys_rattle_dealloc(v2348);
-v2361:;
-    if (v2354 == 0) goto v2342;
+    if (v2235 == 1) { v2241 = v2239; v2242 = v2238; v2243 = v2237; v2244 = v2236; v2245 = v2234; v2246 = v2233; v2247 = v2232; v2248 = v2231; v2249 = v2230; v2250 = v2229; v2251 = v2228; v2252 = v2227; v2253 = v2226; v2254 = v2225; v2255 = v2224; v2256 = v2223; v2257 = v2222; v2258 = v2221; v2259 = v2220; v2260 = v2219; v2261 = v2218; v2262 = v2217; v2263 = v2216; v2264 = v2215; v2265 = v2214; v2266 = v2213; v2267 = v2212; v2268 = v2211; v2269 = v2210; v2270 = v2209; v2271 = v2208; v2272 = v2207; v2273 = v2206; v2274 = v2205; v2275 = v2204; v2276 = v2203; v2277 = v2202; v2278 = v2201; v2279 = v2200; v2280 = v2199; v2281 = v2198; v2282 = v2197; goto v2195; }
+    goto v2196;
+v1417:;
+    u8 *v2339 = at(ptr, v152);
+    u64 v2340 = at(u64, v152 + 8);
+    if (v2340 == 0) goto v2342;
+    v2344 = 0;
+v2343:;
+    u64 v2347 = v2344 * 104u;
+    u8 *v2352 = at(ptr_1, v2339 + v2347 + 48);
+    u64 v2354 = at(u64_1, v2339 + v2347 + 64);
+    u8 *v2356 = at(ptr_1, v2339 + v2347 + 72);
+    u64 v2358 = at(u64_1, v2339 + v2347 + 88);
+    if (at(u64_1, v2339 + v2347 + 40) == 0) goto v2360;
+    sys_rattle_dealloc(at(ptr_1, v2339 + v2347 + 24));
+v2360:;
+    if (v2354 == 0) goto v2365;
     sys_rattle_dealloc(v2352);
+v2365:;
+    if (v2358 == 0) goto v2346;
+    sys_rattle_dealloc(v2356);
+v2346:;
+    u64 v2345 = v2344 + 1;
+    if (!(v2345 == v2340)) { v2344 = v2345; goto v2343; }
 v2342:;
-    u64 v2341 = v2340 + 1;
-    if (!(v2341 == v2336)) { v2340 = v2341; goto v2339; }
-v2338:;
-    if (v2334 == 0) goto v2367;
-    sys_rattle_dealloc(v2335);
-v2367:;
-    if (!(at(u8, v152 + 24) == 1)) goto v2372;
-    u8 *v2373 = at(ptr, v152 + 32);
-    u64 v2377 = (u64)at(u8, v2373 + 40);
-    u64 v2379 = at(u64_1, v2373 + 48);
-    memcpy(v25, v2373, 16u);
-    memcpy(v25 + 16, v2373 + 16, 24u);
-    sys_rattle_dealloc(v2373);
+    if (v2338 == 0) goto v2371;
+    sys_rattle_dealloc(v2339);
+v2371:;
+    if (!(at(u8, v152 + 24) == 1)) goto v2376;
+    u8 *v2377 = at(ptr, v152 + 32);
+    u64 v2381 = (u64)at(u8, v2377 + 40);
+    u64 v2383 = at(u64_1, v2377 + 48);
+    memcpy(v25, v2377, 16u);
+    memcpy(v25 + 16, v2377 + 16, 24u);
+    sys_rattle_dealloc(v2377);
     memcpy(v24, v25, 16u);
     memcpy(v24 + 16, v25 + 16, 24u);
-    at(u64, v24 + 40) = v2377;
-    at(u64, v24 + 48) = v2379;
+    at(u64, v24 + 40) = v2381;
+    at(u64, v24 + 48) = v2383;
     command_line_clap_parser_matches_SubCommand_Destruct_drop(v24);
-v2372:;
+v2376:;
     at(u8, v0) = 1;
     memset(v0 + 8, 0, 329u);
     return;
-v2093:;
-    if (core_cmp_bytes_equal(v1185, v1187, (u8 *)text_demo, 4)) { v2187 = 7; v2188 = (u8 *)0; v2189 = 0; v2190 = 0; } else goto v1274;
-v1291:;
+v2097:;
+    if (core_cmp_bytes_equal(v1185, v1187, (u8 *)text_demo, 4)) { v2191 = 7; v2192 = (u8 *)0; v2193 = 0; v2194 = 0; } else goto v1274;
+v1295:;
     memset(v44, 0, 15u);
     memcpy(v45, v38, 27u);
-    v2237 = v2190; v2238 = v2189; v2239 = v2188; v2240 = v2187; v2241 = 0; v2242 = 0; v2243 = (u8 *)0; v2244 = 0; v2245 = 0; v2246 = 0; v2247 = 0; v2248 = 0; v2249 = 0; v2250 = 0; v2251 = 0; v2252 = 0; v2253 = 0; v2254 = (u8 *)0; v2255 = 0; v2256 = 0; v2257 = (u8 *)0; v2258 = 0; v2259 = 0; v2260 = (u8 *)0; v2261 = 0; v2262 = 0; v2263 = (u8 *)0; v2264 = 0; v2265 = 0; v2266 = (u8 *)0; v2267 = 0; v2268 = 0; v2269 = (u8 *)0; v2270 = 0; v2271 = 0; v2272 = (u8 *)0; v2273 = 0; v2274 = 0; v2275 = (u8 *)0; v2276 = 0; v2277 = 0; v2278 = 0;
-v2191:;
+    v2241 = v2194; v2242 = v2193; v2243 = v2192; v2244 = v2191; v2245 = 0; v2246 = 0; v2247 = (u8 *)0; v2248 = 0; v2249 = 0; v2250 = 0; v2251 = 0; v2252 = 0; v2253 = 0; v2254 = 0; v2255 = 0; v2256 = 0; v2257 = 0; v2258 = (u8 *)0; v2259 = 0; v2260 = 0; v2261 = (u8 *)0; v2262 = 0; v2263 = 0; v2264 = (u8 *)0; v2265 = 0; v2266 = 0; v2267 = (u8 *)0; v2268 = 0; v2269 = 0; v2270 = (u8 *)0; v2271 = 0; v2272 = 0; v2273 = (u8 *)0; v2274 = 0; v2275 = 0; v2276 = (u8 *)0; v2277 = 0; v2278 = 0; v2279 = (u8 *)0; v2280 = 0; v2281 = 0; v2282 = 0;
+v2195:;
     memcpy(v46, v44, 15u);
     memcpy(v47, v45, 27u);
     memcpy(v159, v46, 15u);
     memcpy(v160, v47, 27u);
     at(u8, v161) = 0;
     at(u64, v161 + 8) = 0;
-    at(u64, v161 + 16) = (u64)v2240;
-    at(ptr, v161 + 24) = v2239;
-    at(u64, v161 + 32) = v2238;
-    at(u8, v161 + 40) = v2237;
+    at(u64, v161 + 16) = (u64)v2244;
+    at(ptr, v161 + 24) = v2243;
+    at(u64, v161 + 32) = v2242;
+    at(u8, v161 + 40) = v2241;
     memcpy(v161 + 41, v159, 15u);
-    at(u8, v161 + 56) = v2245;
-    at(u8, v161 + 57) = v2244;
-    store48(v161 + 58, v2278);
-    at(ptr, v161 + 64) = v2243;
-    at(u64, v161 + 72) = v2242;
-    at(u64, v161 + 80) = v2241;
-    at(u64, v161 + 88) = v2277;
-    at(u64, v161 + 96) = v2276;
-    at(ptr, v161 + 104) = v2275;
-    at(u64, v161 + 112) = v2274;
-    at(u64, v161 + 120) = v2273;
-    at(ptr, v161 + 128) = v2272;
-    at(u64, v161 + 136) = v2271;
-    at(u64, v161 + 144) = v2270;
-    at(ptr, v161 + 152) = v2269;
-    at(u64, v161 + 160) = v2268;
-    at(u64, v161 + 168) = v2267;
-    at(ptr, v161 + 176) = v2266;
-    at(u64, v161 + 184) = v2265;
-    at(u64, v161 + 192) = v2264;
-    at(ptr, v161 + 200) = v2263;
-    at(u64, v161 + 208) = v2262;
-    at(u64, v161 + 216) = v2261;
-    at(ptr, v161 + 224) = v2260;
-    at(u64, v161 + 232) = v2259;
-    at(u64, v161 + 240) = v2258;
-    at(ptr, v161 + 248) = v2257;
-    at(u64, v161 + 256) = v2256;
-    at(u64, v161 + 264) = v2255;
-    at(ptr, v161 + 272) = v2254;
-    at(u64, v161 + 280) = v2253;
-    at(u64, v161 + 288) = v2252;
-    at(u8, v161 + 296) = v2251;
-    at(u8, v161 + 297) = v2250;
-    at(u8, v161 + 298) = v2249;
-    at(u8, v161 + 299) = v2248;
-    at(u8, v161 + 300) = v2247;
+    at(u8, v161 + 56) = v2249;
+    at(u8, v161 + 57) = v2248;
+    store48(v161 + 58, v2282);
+    at(ptr, v161 + 64) = v2247;
+    at(u64, v161 + 72) = v2246;
+    at(u64, v161 + 80) = v2245;
+    at(u64, v161 + 88) = v2281;
+    at(u64, v161 + 96) = v2280;
+    at(ptr, v161 + 104) = v2279;
+    at(u64, v161 + 112) = v2278;
+    at(u64, v161 + 120) = v2277;
+    at(ptr, v161 + 128) = v2276;
+    at(u64, v161 + 136) = v2275;
+    at(u64, v161 + 144) = v2274;
+    at(ptr, v161 + 152) = v2273;
+    at(u64, v161 + 160) = v2272;
+    at(u64, v161 + 168) = v2271;
+    at(ptr, v161 + 176) = v2270;
+    at(u64, v161 + 184) = v2269;
+    at(u64, v161 + 192) = v2268;
+    at(ptr, v161 + 200) = v2267;
+    at(u64, v161 + 208) = v2266;
+    at(u64, v161 + 216) = v2265;
+    at(ptr, v161 + 224) = v2264;
+    at(u64, v161 + 232) = v2263;
+    at(u64, v161 + 240) = v2262;
+    at(ptr, v161 + 248) = v2261;
+    at(u64, v161 + 256) = v2260;
+    at(u64, v161 + 264) = v2259;
+    at(ptr, v161 + 272) = v2258;
+    at(u64, v161 + 280) = v2257;
+    at(u64, v161 + 288) = v2256;
+    at(u8, v161 + 296) = v2255;
+    at(u8, v161 + 297) = v2254;
+    at(u8, v161 + 298) = v2253;
+    at(u8, v161 + 299) = v2252;
+    at(u8, v161 + 300) = v2251;
     memcpy(v161 + 301, v160, 27u);
-    at(u64, v161 + 328) = v2246;
+    at(u64, v161 + 328) = v2250;
     at(u8, v161 + 336) = v1197;
     memcpy(v151 + 16, v161 + 16, 320u);
-    u8 *v2327 = at(ptr, v152);
-    u64 v2328 = at(u64, v152 + 8);
-    u64 v2330 = at(u64, v152 + 16);
-    if (v2328 == 0) goto v2332;
-    v2385 = 0;
-v2333:;
-    u64 v2388 = v2385 * 104u;
-    u8 *v2393 = at(ptr_1, v2327 + v2388 + 48);
-    u64 v2395 = at(u64_1, v2327 + v2388 + 64);
-    u8 *v2397 = at(ptr_1, v2327 + v2388 + 72);
-    u64 v2399 = at(u64_1, v2327 + v2388 + 88);
-    if (at(u64_1, v2327 + v2388 + 40) == 0) goto v2401;
-    sys_rattle_dealloc(at(ptr_1, v2327 + v2388 + 24));
-v2401:;
-    if (v2395 == 0) goto v2406;
-    sys_rattle_dealloc(v2393);
-v2406:;
-    if (v2399 == 0) goto v2387;
+    u8 *v2331 = at(ptr, v152);
+    u64 v2332 = at(u64, v152 + 8);
+    u64 v2334 = at(u64, v152 + 16);
+    if (v2332 == 0) goto v2336;
+    v2389 = 0;
+v2337:;
+    u64 v2392 = v2389 * 104u;
+    u8 *v2397 = at(ptr_1, v2331 + v2392 + 48);
+    u64 v2399 = at(u64_1, v2331 + v2392 + 64);
+    u8 *v2401 = at(ptr_1, v2331 + v2392 + 72);
+    u64 v2403 = at(u64_1, v2331 + v2392 + 88);
+    if (at(u64_1, v2331 + v2392 + 40) == 0) goto v2405;
+    sys_rattle_dealloc(at(ptr_1, v2331 + v2392 + 24));
+v2405:;
+    if (v2399 == 0) goto v2410;
     sys_rattle_dealloc(v2397);
-v2387:;
-    u64 v2386 = v2385 + 1;
-    if (!(v2386 == v2328)) { v2385 = v2386; goto v2333; }
-v2332:;
-    if (v2330 == 0) goto v2412;
-    sys_rattle_dealloc(v2327);
-v2412:;
-    if (!(at(u8, v152 + 24) == 1)) goto v2417;
-    u8 *v2418 = at(ptr, v152 + 32);
-    u64 v2422 = (u64)at(u8, v2418 + 40);
-    u64 v2424 = at(u64_1, v2418 + 48);
-    memcpy(v23, v2418, 16u);
-    memcpy(v23 + 16, v2418 + 16, 24u);
-    sys_rattle_dealloc(v2418);
+v2410:;
+    if (v2403 == 0) goto v2391;
+    sys_rattle_dealloc(v2401);
+v2391:;
+    u64 v2390 = v2389 + 1;
+    if (!(v2390 == v2332)) { v2389 = v2390; goto v2337; }
+v2336:;
+    if (v2334 == 0) goto v2416;
+    sys_rattle_dealloc(v2331);
+v2416:;
+    if (!(at(u8, v152 + 24) == 1)) goto v2421;
+    u8 *v2422 = at(ptr, v152 + 32);
+    u64 v2426 = (u64)at(u8, v2422 + 40);
+    u64 v2428 = at(u64_1, v2422 + 48);
+    memcpy(v23, v2422, 16u);
+    memcpy(v23 + 16, v2422 + 16, 24u);
+    sys_rattle_dealloc(v2422);
     memcpy(v22, v23, 16u);
     memcpy(v22 + 16, v23 + 16, 24u);
-    at(u64, v22 + 40) = v2422;
-    at(u64, v22 + 48) = v2424;
+    at(u64, v22 + 40) = v2426;
+    at(u64, v22 + 48) = v2428;
     command_line_clap_parser_matches_SubCommand_Destruct_drop(v22);
-v2417:;
+v2421:;
     at(u8, v0) = 0;
     at(u64_1, v0 + 8) = 0;
     memcpy(v0 + 16, v151 + 16, 320u);
@@ -2955,16 +2968,16 @@ v2417:;
 v1274:;
     memset(v44, 0, 15u);
     memcpy(v45, v38, 27u);
-v2192:;
+v2196:;
     memcpy(v46, v48, 15u);
     memcpy(v47, v49, 27u);
     memcpy(v159, v46, 15u);
     memcpy(v160, v47, 27u);
-    goto v2186;
+    goto v2190;
 v1183:;
     memset(v159, 0, 15u);
     memset(v160, 0, 27u);
-v2186:;
+v2190:;
     memset(v16, 0, 24u);
     memset(v17, 0, 672u);
     memset(v18, 0, 680u);
@@ -2978,7 +2991,7 @@ v2186:;
     at(ptr, v15 + 32) = (u8 *)text_A_join_keeps_what_its_cu;
     at(u64, v15 + 40) = 543u;
     command_line_subcommands_with_help(v14, v15, 0);
-    if (!(at(u8, v14) == 0)) goto v2440;
+    if (!(at(u8, v14) == 0)) goto v2444;
     memcpy(v20 + 7, v14 + 8, 432u);
     memcpy(v19 + 456, v14 + 464, 216u);
     memcpy(v19, v20 + 7, 432u);
@@ -2986,249 +2999,249 @@ v2186:;
     at(ptr, v19 + 440) = (u8 *)text_fontcut_join_OPTIONS_o_O;
     at(u64, v19 + 448) = 42u;
     clap_builder_command_Command_bin_name(v18, v19, (u8 *)text_fontcut_join, 12u);
-    if (!(at(u8, v18) == 0)) goto v2451;
+    if (!(at(u8, v18) == 0)) goto v2455;
     memcpy(v17, v18 + 8, 672u);
     memset(v13, 0, 24u);
     memset(v9, 0, 32u);
     memset(v10 + 8, 0, 16u);
-    if (at(u8, v17 + 669) & 1) goto v2457;
-    u8 v2461 = clap_builder_command_building_build_levels(uadd_sat64(clap_builder_command_Command_depth(v17), 2), v17);
-    at(u8, v17 + 669) = v2461;
-    if (!(v2461 & 1)) goto v2463;
-v2457:;
+    if (at(u8, v17 + 669) & 1) goto v2461;
+    u8 v2465 = clap_builder_command_building_build_levels(uadd_sat64(clap_builder_command_Command_depth(v17), 2), v17);
+    at(u8, v17 + 669) = v2465;
+    if (!(v2465 & 1)) goto v2467;
+v2461:;
     memset(v12, 0, 24u);
-    v2555 = 0; v2556 = 0; v2557 = 1; v2558 = 0; goto v2468;
-v2463:;
+    v2559 = 0; v2560 = 0; v2561 = 1; v2562 = 0; goto v2472;
+v2467:;
     at(u64, v10) = 0;
     clap_output_usage_with_title(v9, v17, v4, 0, v10);
-    if (!(at(u8, v9) == 0)) goto v2467;
-    u8 *v2470 = at(ptr, v9 + 8);
-    u64 v2472 = at(u64, v9 + 16);
-    u64 v2474 = at(u64, v9 + 24);
-    u64_u64 v2476 = sys_rattle_alloc(7, 1);
-    if (!(v2476._0 & 1)) goto v2480;
-    u64 v2481 = v2476._1;
-    u8 *v2482 = (u8 *)v2481;
-    if ((v2481 - ((u64)(u8 *)text_error)) < 7) v2488 = 0; else goto v2486;
-v2485:;
-    at(u8, v2482 + v2488) = at(u8, (u8 *)text_error + v2488);
-    u64 v2489 = v2488 + 1;
-    if (v2489 == 7) goto v2487;
-    v2488 = v2489; goto v2485;
-v2486:;
-    memcpy(v2482, (u8 *)text_error, 7);
-v2487:;
-    at(ptr, v8) = v2482;
+    if (!(at(u8, v9) == 0)) goto v2471;
+    u8 *v2474 = at(ptr, v9 + 8);
+    u64 v2476 = at(u64, v9 + 16);
+    u64 v2478 = at(u64, v9 + 24);
+    u64_u64 v2480 = sys_rattle_alloc(7, 1);
+    if (!(v2480._0 & 1)) goto v2484;
+    u64 v2485 = v2480._1;
+    u8 *v2486 = (u8 *)v2485;
+    if ((v2485 - ((u64)(u8 *)text_error)) < 7) v2492 = 0; else goto v2490;
+v2489:;
+    at(u8, v2486 + v2492) = at(u8, (u8 *)text_error + v2492);
+    u64 v2493 = v2492 + 1;
+    if (v2493 == 7) goto v2491;
+    v2492 = v2493; goto v2489;
+v2490:;
+    memcpy(v2486, (u8 *)text_error, 7);
+v2491:;
+    at(ptr, v8) = v2486;
     at(u64, v8 + 8) = 7;
     at(u64, v8 + 16) = 7;
-    if (!std_alloc_vec_Vec_grow_amortized_1cf2(v8, 64u)) goto v2498;
-    u64 v2499 = at(u64, v8 + 8);
-    u64 v2500 = v2499 + 64u;
-    u8 *v2501 = at(ptr, v8);
-    if (!((((u64)(v2501 + (i64)v2499)) - ((u64)(u8 *)text_no_file_to_join_into_nam)) < 64u)) goto v2507;
-    if (((v2499 + ((u64)v2501)) - ((u64)(u8 *)text_no_file_to_join_into_nam)) < 32u) v2521 = 0; else { v2514 = 0; goto v2513; }
-v2512:;
-    at(u8, (v2501 + (i64)v2499) + v2521) = at(u8, (u8 *)text_no_file_to_join_into_nam + v2521);
-    u64 v2522 = v2521 + 1;
-    if (v2522 == 64u) goto v2520;
-    v2521 = v2522; goto v2512;
-v2513:;
-    at(u8x16_1, (v2501 + (i64)v2499) + v2514) = at(u8x16_1, (u8 *)text_no_file_to_join_into_nam + v2514);
-    u64 v2515 = v2514 + 16u;
-    if (v2515 == 64u) goto v2520;
-    v2514 = v2515; goto v2513;
-v2507:;
-    memcpy(v2501 + (i64)v2499, (u8 *)text_no_file_to_join_into_nam, 64u);
-v2520:;
-    at(u64, v8 + 8) = v2500;
+    if (!std_alloc_vec_Vec_grow_amortized_1cf2(v8, 64u)) goto v2502;
+    u64 v2503 = at(u64, v8 + 8);
+    u64 v2504 = v2503 + 64u;
+    u8 *v2505 = at(ptr, v8);
+    if (!((((u64)(v2505 + (i64)v2503)) - ((u64)(u8 *)text_no_file_to_join_into_nam)) < 64u)) goto v2511;
+    if (((v2503 + ((u64)v2505)) - ((u64)(u8 *)text_no_file_to_join_into_nam)) < 32u) v2525 = 0; else { v2518 = 0; goto v2517; }
+v2516:;
+    at(u8, (v2505 + (i64)v2503) + v2525) = at(u8, (u8 *)text_no_file_to_join_into_nam + v2525);
+    u64 v2526 = v2525 + 1;
+    if (v2526 == 64u) goto v2524;
+    v2525 = v2526; goto v2516;
+v2517:;
+    at(u8x16_1, (v2505 + (i64)v2503) + v2518) = at(u8x16_1, (u8 *)text_no_file_to_join_into_nam + v2518);
+    u64 v2519 = v2518 + 16u;
+    if (v2519 == 64u) goto v2524;
+    v2518 = v2519; goto v2517;
+v2511:;
+    memcpy(v2505 + (i64)v2503, (u8 *)text_no_file_to_join_into_nam, 64u);
+v2524:;
+    at(u64, v8 + 8) = v2504;
     at(u64, v11) = 1;
-    at(ptr, v11 + 8) = v2470;
-    at(u64, v11 + 16) = v2472;
-    if (!(clap_error_text_usage_and_help(v8, v17, v11) & 1)) goto v2535;
-    if (at(u64, v8 + 16) == 0) goto v2549;
+    at(ptr, v11 + 8) = v2474;
+    at(u64, v11 + 16) = v2476;
+    if (!(clap_error_text_usage_and_help(v8, v17, v11) & 1)) goto v2539;
+    if (at(u64, v8 + 16) == 0) goto v2553;
     sys_rattle_dealloc(at(ptr, v8));
-v2549:;
-    if (v2474 == 0) goto v2553;
-    sys_rattle_dealloc(v2470);
 v2553:;
+    if (v2478 == 0) goto v2557;
+    sys_rattle_dealloc(v2474);
+v2557:;
     memset(v12, 0, 24u);
-    v2555 = 0; v2556 = 0; v2557 = 1; v2558 = 0; goto v2468;
-v2535:;
-    if (v2474 == 0) goto v2545;
-    sys_rattle_dealloc(v2470);
-v2545:;
+    v2559 = 0; v2560 = 0; v2561 = 1; v2562 = 0; goto v2472;
+v2539:;
+    if (v2478 == 0) goto v2549;
+    sys_rattle_dealloc(v2474);
+v2549:;
     memcpy(v12, v8, 24u);
-    v2555 = 1; v2556 = 9; v2557 = 0; v2558 = 1; goto v2468;
-v2498:;
-    if (at(u64, v8 + 16) == 0) goto v2538;
+    v2559 = 1; v2560 = 9; v2561 = 0; v2562 = 1; goto v2472;
+v2502:;
+    if (at(u64, v8 + 16) == 0) goto v2542;
     sys_rattle_dealloc(at(ptr, v8));
-v2538:;
-    if (v2474 == 0) goto v2542;
-    sys_rattle_dealloc(v2470);
 v2542:;
+    if (v2478 == 0) goto v2546;
+    sys_rattle_dealloc(v2474);
+v2546:;
     memset(v12, 0, 24u);
-    v2555 = 0; v2556 = 0; v2557 = 1; v2558 = 0; goto v2468;
-v2480:;
-    if (v2474 == 0) goto v2528;
-    sys_rattle_dealloc(v2470);
-v2528:;
+    v2559 = 0; v2560 = 0; v2561 = 1; v2562 = 0; goto v2472;
+v2484:;
+    if (v2478 == 0) goto v2532;
+    sys_rattle_dealloc(v2474);
+v2532:;
     memset(v12, 0, 24u);
-    v2555 = 0; v2556 = 0; v2557 = 1; v2558 = 0; goto v2468;
-v2467:;
+    v2559 = 0; v2560 = 0; v2561 = 1; v2562 = 0; goto v2472;
+v2471:;
     memset(v12, 0, 24u);
-    v2555 = 0; v2556 = 0; v2557 = 1; v2558 = 0;
-v2468:;
+    v2559 = 0; v2560 = 0; v2561 = 1; v2562 = 0;
+v2472:;
     memcpy(v13, v12, 24u);
     memcpy(v16, v13, 24u);
-    if ((at(u8, v17 + 48) != 1) ? 1 : (at(u64, v17 + 72) == 0)) goto v2566;
+    if ((at(u8, v17 + 48) != 1) ? 1 : (at(u64, v17 + 72) == 0)) goto v2570;
     sys_rattle_dealloc(at(ptr, v17 + 56));
-v2566:;
-    if ((at(u8, v17 + 80) != 1) ? 1 : (at(u64, v17 + 104) == 0)) goto v2577;
+v2570:;
+    if ((at(u8, v17 + 80) != 1) ? 1 : (at(u64, v17 + 104) == 0)) goto v2581;
     sys_rattle_dealloc(at(ptr, v17 + 88));
-v2577:;
-    if ((at(u8, v17 + 112) != 1) ? 1 : (at(u64, v17 + 136) == 0)) goto v2588;
+v2581:;
+    if ((at(u8, v17 + 112) != 1) ? 1 : (at(u64, v17 + 136) == 0)) goto v2592;
     sys_rattle_dealloc(at(ptr, v17 + 120));
-v2588:;
-    if (at(u64, v17 + 376) == 0) goto v2595;
+v2592:;
+    if (at(u64, v17 + 376) == 0) goto v2599;
     sys_rattle_dealloc(at(ptr, v17 + 360));
-v2595:;
-    if (at(u64, v17 + 400) == 0) goto v2602;
+v2599:;
+    if (at(u64, v17 + 400) == 0) goto v2606;
     sys_rattle_dealloc(at(ptr, v17 + 384));
-v2602:;
-    if (at(u64, v17 + 424) == 0) goto v2609;
+v2606:;
+    if (at(u64, v17 + 424) == 0) goto v2613;
     sys_rattle_dealloc(at(ptr, v17 + 408));
-v2609:;
+v2613:;
     memcpy(v21, v17 + 576, 24u);
     std_alloc_vec_Vec_drop_15b9(v21);
-    u8 *v2615 = at(ptr, v17 + 600);
-    u64 v2617 = at(u64, v17 + 608);
-    u64 v2619 = at(u64, v17 + 616);
-    if (v2617 == 0) goto v2621;
-    v2623 = 0;
-v2622:;
-    memcpy(v7, v2615 + (v2623 * 672u), 672u);
+    u8 *v2619 = at(ptr, v17 + 600);
+    u64 v2621 = at(u64, v17 + 608);
+    u64 v2623 = at(u64, v17 + 616);
+    if (v2621 == 0) goto v2625;
+    v2627 = 0;
+v2626:;
+    memcpy(v7, v2619 + (v2627 * 672u), 672u);
     command_line_clap_builder_command_Command_Destruct_drop(v7);
-    u64 v2624 = v2623 + 1;
-    if (!(v2624 == v2617)) { v2623 = v2624; goto v2622; }
-v2621:;
-    if (v2619 == 0) goto v2629;
-    sys_rattle_dealloc(v2615);
-v2629:;
-    u8 *v2632 = at(ptr, v17 + 624);
-    u64 v2634 = at(u64, v17 + 632);
-    u64 v2636 = at(u64, v17 + 640);
-    if (v2634 == 0) goto v2638;
-    v2640 = 0;
-v2639:;
-    u64 v2643 = v2640 * 104u;
-    u8 *v2648 = at(ptr_1, v2632 + v2643 + 48);
-    u64 v2650 = at(u64_1, v2632 + v2643 + 64);
-    u8 *v2652 = at(ptr_1, v2632 + v2643 + 72);
-    u64 v2654 = at(u64_1, v2632 + v2643 + 88);
-    if (at(u64_1, v2632 + v2643 + 32) == 0) goto v2656;
-    sys_rattle_dealloc(at(ptr_1, v2632 + v2643 + 16));
-v2656:;
-    if (v2650 == 0) goto v2661;
-    sys_rattle_dealloc(v2648);
-v2661:;
-    if (v2654 == 0) goto v2642;
+    u64 v2628 = v2627 + 1;
+    if (!(v2628 == v2621)) { v2627 = v2628; goto v2626; }
+v2625:;
+    if (v2623 == 0) goto v2633;
+    sys_rattle_dealloc(v2619);
+v2633:;
+    u8 *v2636 = at(ptr, v17 + 624);
+    u64 v2638 = at(u64, v17 + 632);
+    u64 v2640 = at(u64, v17 + 640);
+    if (v2638 == 0) goto v2642;
+    v2644 = 0;
+v2643:;
+    u64 v2647 = v2644 * 104u;
+    u8 *v2652 = at(ptr_1, v2636 + v2647 + 48);
+    u64 v2654 = at(u64_1, v2636 + v2647 + 64);
+    u8 *v2656 = at(ptr_1, v2636 + v2647 + 72);
+    u64 v2658 = at(u64_1, v2636 + v2647 + 88);
+    if (at(u64_1, v2636 + v2647 + 32) == 0) goto v2660;
+    sys_rattle_dealloc(at(ptr_1, v2636 + v2647 + 16));
+v2660:;
+    if (v2654 == 0) goto v2665;
     sys_rattle_dealloc(v2652);
+v2665:;
+    if (v2658 == 0) goto v2646;
+    sys_rattle_dealloc(v2656);
+v2646:;
+    u64 v2645 = v2644 + 1;
+    if (!(v2645 == v2638)) { v2644 = v2645; goto v2643; }
 v2642:;
-    u64 v2641 = v2640 + 1;
-    if (!(v2641 == v2634)) { v2640 = v2641; goto v2639; }
-v2638:;
-    if (v2636 == 0) goto v2667;
-    sys_rattle_dealloc(v2632);
-v2667:;
+    if (v2640 == 0) goto v2671;
+    sys_rattle_dealloc(v2636);
+v2671:;
     memcpy(v162, v16, 24u);
-    if (!v2555) goto v2669;
-    at(u8, v163) = v2556;
-    at(u64, v163 + 8) = v2558;
+    if (!v2559) goto v2673;
+    at(u8, v163) = v2560;
+    at(u64, v163 + 8) = v2562;
     memcpy(v163 + 16, v162, 24u);
     command_line_explained(v161, v163);
-    if (v2557 ? 1 : (at(u64, v163 + 32) == 0)) goto v2677;
+    if (v2561 ? 1 : (at(u64, v163 + 32) == 0)) goto v2681;
     sys_rattle_dealloc(at(ptr, v163 + 16));
-v2677:;
-    u8 v2732 = at(u8, v161);
-    u64 v2735 = (u64)at(u8, v161 + 8);
+v2681:;
+    u8 v2736 = at(u8, v161);
+    u64 v2739 = (u64)at(u8, v161 + 8);
     memcpy(v151 + 16, v161 + 16, 320u);
-    u8 v2739 = at(u8, v161 + 336);
-    u8 *v2740 = at(ptr, v152);
-    u64 v2741 = at(u64, v152 + 8);
-    u64 v2743 = at(u64, v152 + 16);
-    if (v2741 == 0) goto v2745;
-    v2747 = 0;
-v2746:;
-    u64 v2750 = v2747 * 104u;
-    u8 *v2755 = at(ptr_1, v2740 + v2750 + 48);
-    u64 v2757 = at(u64_1, v2740 + v2750 + 64);
-    u8 *v2759 = at(ptr_1, v2740 + v2750 + 72);
-    u64 v2761 = at(u64_1, v2740 + v2750 + 88);
-    if (at(u64_1, v2740 + v2750 + 40) == 0) goto v2763;
-    sys_rattle_dealloc(at(ptr_1, v2740 + v2750 + 24));
-v2763:;
-    if (v2757 == 0) goto v2768;
-    sys_rattle_dealloc(v2755);
-v2768:;
-    if (v2761 == 0) goto v2749;
+    u8 v2743 = at(u8, v161 + 336);
+    u8 *v2744 = at(ptr, v152);
+    u64 v2745 = at(u64, v152 + 8);
+    u64 v2747 = at(u64, v152 + 16);
+    if (v2745 == 0) goto v2749;
+    v2751 = 0;
+v2750:;
+    u64 v2754 = v2751 * 104u;
+    u8 *v2759 = at(ptr_1, v2744 + v2754 + 48);
+    u64 v2761 = at(u64_1, v2744 + v2754 + 64);
+    u8 *v2763 = at(ptr_1, v2744 + v2754 + 72);
+    u64 v2765 = at(u64_1, v2744 + v2754 + 88);
+    if (at(u64_1, v2744 + v2754 + 40) == 0) goto v2767;
+    sys_rattle_dealloc(at(ptr_1, v2744 + v2754 + 24));
+v2767:;
+    if (v2761 == 0) goto v2772;
     sys_rattle_dealloc(v2759);
+v2772:;
+    if (v2765 == 0) goto v2753;
+    sys_rattle_dealloc(v2763);
+v2753:;
+    u64 v2752 = v2751 + 1;
+    if (!(v2752 == v2745)) { v2751 = v2752; goto v2750; }
 v2749:;
-    u64 v2748 = v2747 + 1;
-    if (!(v2748 == v2741)) { v2747 = v2748; goto v2746; }
-v2745:;
-    if (v2743 == 0) goto v2774;
-    sys_rattle_dealloc(v2740);
-v2774:;
-    if (!(at(u8, v152 + 24) == 1)) goto v2779;
+    if (v2747 == 0) goto v2778;
+    sys_rattle_dealloc(v2744);
+v2778:;
+    if (!(at(u8, v152 + 24) == 1)) goto v2783;
     std_alloc_boxed_Box_drop_7e36(at(ptr, v152 + 32));
-v2779:;
-    at(u8, v0) = v2732;
-    at(u64_1, v0 + 8) = v2735;
+v2783:;
+    at(u8, v0) = v2736;
+    at(u64_1, v0 + 8) = v2739;
     memcpy(v0 + 16, v151 + 16, 320u);
-    at(u8, v0 + 336) = v2739;
+    at(u8, v0 + 336) = v2743;
     return;
-v2440:;
-v2451:;
-v2669:;
-    u8 *v2679 = at(ptr, v152);
-    u64 v2680 = at(u64, v152 + 8);
-    u64 v2682 = at(u64, v152 + 16);
-    if (v2680 == 0) goto v2684;
-    v2686 = 0;
-v2685:;
-    u64 v2689 = v2686 * 104u;
-    u8 *v2694 = at(ptr_1, v2679 + v2689 + 48);
-    u64 v2696 = at(u64_1, v2679 + v2689 + 64);
-    u8 *v2698 = at(ptr_1, v2679 + v2689 + 72);
-    u64 v2700 = at(u64_1, v2679 + v2689 + 88);
-    if (at(u64_1, v2679 + v2689 + 40) == 0) goto v2702;
-    sys_rattle_dealloc(at(ptr_1, v2679 + v2689 + 24));
-v2702:;
-    if (v2696 == 0) goto v2707;
-    sys_rattle_dealloc(v2694);
-v2707:;
-    if (v2700 == 0) goto v2688;
+v2444:;
+v2455:;
+v2673:;
+    u8 *v2683 = at(ptr, v152);
+    u64 v2684 = at(u64, v152 + 8);
+    u64 v2686 = at(u64, v152 + 16);
+    if (v2684 == 0) goto v2688;
+    v2690 = 0;
+v2689:;
+    u64 v2693 = v2690 * 104u;
+    u8 *v2698 = at(ptr_1, v2683 + v2693 + 48);
+    u64 v2700 = at(u64_1, v2683 + v2693 + 64);
+    u8 *v2702 = at(ptr_1, v2683 + v2693 + 72);
+    u64 v2704 = at(u64_1, v2683 + v2693 + 88);
+    if (at(u64_1, v2683 + v2693 + 40) == 0) goto v2706;
+    sys_rattle_dealloc(at(ptr_1, v2683 + v2693 + 24));
+v2706:;
+    if (v2700 == 0) goto v2711;
     sys_rattle_dealloc(v2698);
+v2711:;
+    if (v2704 == 0) goto v2692;
+    sys_rattle_dealloc(v2702);
+v2692:;
+    u64 v2691 = v2690 + 1;
+    if (!(v2691 == v2684)) { v2690 = v2691; goto v2689; }
 v2688:;
-    u64 v2687 = v2686 + 1;
-    if (!(v2687 == v2680)) { v2686 = v2687; goto v2685; }
-v2684:;
-    if (v2682 == 0) goto v2713;
-    sys_rattle_dealloc(v2679);
-v2713:;
-    if (!(at(u8, v152 + 24) == 1)) goto v2718;
-    u8 *v2719 = at(ptr, v152 + 32);
-    u64 v2723 = (u64)at(u8, v2719 + 40);
-    u64 v2725 = at(u64_1, v2719 + 48);
-    memcpy(v6, v2719, 16u);
-    memcpy(v6 + 16, v2719 + 16, 24u);
-    sys_rattle_dealloc(v2719);
+    if (v2686 == 0) goto v2717;
+    sys_rattle_dealloc(v2683);
+v2717:;
+    if (!(at(u8, v152 + 24) == 1)) goto v2722;
+    u8 *v2723 = at(ptr, v152 + 32);
+    u64 v2727 = (u64)at(u8, v2723 + 40);
+    u64 v2729 = at(u64_1, v2723 + 48);
+    memcpy(v6, v2723, 16u);
+    memcpy(v6 + 16, v2723 + 16, 24u);
+    sys_rattle_dealloc(v2723);
     memcpy(v5, v6, 16u);
     memcpy(v5 + 16, v6 + 16, 24u);
-    at(u64, v5 + 40) = v2723;
-    at(u64, v5 + 48) = v2725;
+    at(u64, v5 + 40) = v2727;
+    at(u64, v5 + 48) = v2729;
     command_line_clap_parser_matches_SubCommand_Destruct_drop(v5);
-v2718:;
+v2722:;
     at(u8, v0) = 1;
     memset(v0 + 8, 0, 329u);
     return;
@@ -3337,7 +3350,7 @@ v86:;
     at(u64, v9 + 16) = v54;
     goto v108;
 v43:;
-    if (!(core_fmt_formatter_Formatter_write_indented_04f0(v9, v1, v2) == 0)) goto v22;
+    if (core_fmt_formatter_Formatter_write_indented_04f0(v9, v1, v2) & 1) goto v22;
 v108:;
     at(u32, v9 + 24) = 32u;
     memset(v9 + 28, 0, 12u);
@@ -3364,7 +3377,7 @@ v135:;
     at(u64, v9 + 16) = v125;
     goto v142;
 v114:;
-    if (!(core_fmt_formatter_Formatter_write_indented_04f0(v9, (u8 *)table_856cdd20, 2) == 0)) goto v22;
+    if (core_fmt_formatter_Formatter_write_indented_04f0(v9, (u8 *)table_856cdd20, 2) & 1) goto v22;
 v142:;
     at(u32, v9 + 24) = 32u;
     memset(v9 + 28, 0, 12u);
@@ -3416,7 +3429,7 @@ v192:;
     at(u64, v9 + 16) = v159;
     goto v214;
 v148:;
-    if (!(core_fmt_formatter_Formatter_write_indented_04f0(v9, v3, v4) == 0)) goto v22;
+    if (core_fmt_formatter_Formatter_write_indented_04f0(v9, v3, v4) & 1) goto v22;
 v214:;
     at(u32, v9 + 24) = 32u;
     memset(v9 + 28, 0, 12u);
@@ -3433,7 +3446,7 @@ v225:;
     at(u64, v9 + 16) = v230;
     goto v235;
 v220:;
-    if (!(core_fmt_formatter_Formatter_write_indented_04f0(v9, (u8 *)table_01ad65c7, 1) == 0)) goto v22;
+    if (core_fmt_formatter_Formatter_write_indented_04f0(v9, (u8 *)table_01ad65c7, 1) & 1) goto v22;
 v235:;
     memcpy(v10 + 7, v9, 24u);
     v244 = 0; goto v239;
@@ -3648,10 +3661,10 @@ v47:;
 
 static void command_line_subcommands_with_arguments(u8 *v0, u8 *v1, u8 *v2, u64 v3, u8 v4) {
     _Alignas(8) u8 v6[1], v7[672], v30[608], v46[608], v47[616], v48[608], v50[608], v51[616], v52[608], v54[608], v56[16], v57[16], v58[16], v59[16], v60[16], v61[16], v62[16], v63[16], v64[16], v65[16], v66[16], v67[48], v74[216], v75[168], v76[24], v77[48], v81[216], v82[168], v83[24], v144[48], v148[216], v149[168], v150[24], v167[16], v168[16], v169[16], v170[16], v171[16], v172[16], v173[16], v174[16], v175[16], v176[16], v177[16], v178[48], v185[216], v186[168], v187[24], v188[680], v189[672], v190[608];
-    u8 v8[55], v9[7], v10[7], v11[7], v12[216], v13[168], v14[24], v15[24], v16[16], v17[16], v18[16], v19[16], v20[16], v21[16], v22[16], v23[16], v24[16], v25[16], v26[16], v27[48], v28[86], v29[5], v31[24], v32[16], v33[16], v34[16], v35[16], v36[16], v37[16], v38[16], v39[16], v40[16], v41[16], v42[16], v43[48], v44[86], v45[5], v49[615], v53[615], v55[24], v69[5], v70[55], v71[7], v72[7], v73[7], v78[7], v79[7], v80[7], v145[7], v146[7], v147[7], v151[24], v152[16], v153[16], v154[16], v155[16], v156[16], v157[16], v158[16], v159[16], v160[16], v161[16], v162[16], v163[48], v164[86], v165[5], v166[24], v180[5], v181[55], v182[7], v183[7], v184[7], v678, v680, v682, *v688, *v694, *v700, *v706, *v712, *v718, *v724, *v730, *v753, v755, *v787, *v889, *v892, *v894, *v895, *v896, *v897, *v898, *v899, *v900, *v901, *v902, *v903, *v905, *v908, *v910, v912, *v916, *v919, v924, v925, v926, v927, v928, v929, *v995, *v1043, *v1046, *v1048, *v1049, *v1050, *v1051, *v1052, *v1053, *v1054, *v1055, *v1056, *v1057, *v1059, *v1062, *v1064, v1066, *v1070, *v1073, v1078, v1079, v1080, v1081, v1082, v1083, *v1149, *v1198, *v1201, *v1203, *v1204, *v1205, *v1206, *v1207, *v1208, *v1209, *v1210, *v1211, *v1212, *v1214, *v1217, *v1219, v1221, *v1225, *v1228, v1233, v1234, v1235, v1236, v1237, v1238, *v1249, *v1352, *v1355, *v1357, *v1358, *v1359, *v1360, *v1361, *v1362, *v1363, *v1364, *v1365, *v1366, *v1368, *v1371, *v1373, v1375, v1376, v1377, v1378, v1379, v1380, *v1385, *v1388, v1392, *v1393, *v1396, *v1398, *v1399, *v1400, *v1401, *v1402, *v1403, *v1404, *v1405, *v1406, *v1407, *v1409, *v1412, *v1414, v1416, *v1420, *v1423, v1428, v1429, v1430, v1431, v1432, v1433, *v1437, *v1440, *v1445, *v1447, *v1448, *v1449, *v1450, *v1451, *v1452, *v1453, *v1454, *v1455, *v1456, *v1458, *v1461, *v1463, *v1465, v1470, v1471, v1472, v1473, v1474, v1475, *v689, *v695, *v701, *v707, *v713, *v719, v679, *v725, v681, *v731, v683, *v1597, *v1600, *v1603, *v1606, *v1609, *v1612, *v1615, *v1618, v1621, v1622, v1623;
+    u8 v8[55], v9[7], v10[7], v11[7], v12[216], v13[168], v14[24], v15[24], v16[16], v17[16], v18[16], v19[16], v20[16], v21[16], v22[16], v23[16], v24[16], v25[16], v26[16], v27[48], v28[86], v29[5], v31[24], v32[16], v33[16], v34[16], v35[16], v36[16], v37[16], v38[16], v39[16], v40[16], v41[16], v42[16], v43[48], v44[86], v45[5], v49[615], v53[615], v55[24], v69[5], v70[55], v71[7], v72[7], v73[7], v78[7], v79[7], v80[7], v145[7], v146[7], v147[7], v151[24], v152[16], v153[16], v154[16], v155[16], v156[16], v157[16], v158[16], v159[16], v160[16], v161[16], v162[16], v163[48], v164[86], v165[5], v166[24], v180[5], v181[55], v182[7], v183[7], v184[7], v678, v680, v682, *v688, *v694, *v700, *v706, *v712, *v718, *v724, *v730, *v753, v755, *v787, *v905, *v908, *v910, *v911, *v912, *v913, *v914, *v915, *v916, *v917, *v918, *v919, *v921, *v924, *v926, v928, *v932, *v935, v940, v941, v942, v943, v944, v945, *v1011, *v1059, *v1062, *v1064, *v1065, *v1066, *v1067, *v1068, *v1069, *v1070, *v1071, *v1072, *v1073, *v1075, *v1078, *v1080, v1082, *v1086, *v1089, v1094, v1095, v1096, v1097, v1098, v1099, *v1165, *v1214, *v1217, *v1219, *v1220, *v1221, *v1222, *v1223, *v1224, *v1225, *v1226, *v1227, *v1228, *v1230, *v1233, *v1235, v1237, *v1241, *v1244, v1249, v1250, v1251, v1252, v1253, v1254, *v1265, *v1368, *v1371, *v1373, *v1374, *v1375, *v1376, *v1377, *v1378, *v1379, *v1380, *v1381, *v1382, *v1384, *v1387, *v1389, v1391, v1392, v1393, v1394, v1395, v1396, *v1401, *v1404, v1408, *v1409, *v1412, *v1414, *v1415, *v1416, *v1417, *v1418, *v1419, *v1420, *v1421, *v1422, *v1423, *v1425, *v1428, *v1430, v1432, *v1436, *v1439, v1444, v1445, v1446, v1447, v1448, v1449, *v1453, *v1456, *v1461, *v1463, *v1464, *v1465, *v1466, *v1467, *v1468, *v1469, *v1470, *v1471, *v1472, *v1474, *v1477, *v1479, *v1481, v1486, v1487, v1488, v1489, v1490, v1491, *v689, *v695, *v701, *v707, *v713, *v719, v679, *v725, v681, *v731, v683, *v1613, *v1616, *v1619, *v1622, *v1625, *v1628, *v1631, *v1634, v1637, v1638, v1639;
     _Alignas(2) u8 v68[86], v179[86];
-    u64 v675, v684, v686, v690, v692, v696, v698, v702, v704, v708, v710, v714, v716, v720, v722, v726, v728, v754, v788, v789, v890, v891, v893, v904, v906, v907, v909, v911, v915, v917, v918, v920, v921, v922, v923, v996, v1044, v1045, v1047, v1058, v1060, v1061, v1063, v1065, v1069, v1071, v1072, v1074, v1075, v1076, v1077, v1150, v1199, v1200, v1202, v1213, v1215, v1216, v1218, v1220, v1224, v1226, v1227, v1229, v1230, v1231, v1232, v1250, v1353, v1354, v1356, v1367, v1369, v1370, v1372, v1374, v1381, v1382, v1383, v1384, v1386, v1387, v1389, v1394, v1395, v1397, v1408, v1410, v1411, v1413, v1415, v1419, v1421, v1422, v1424, v1425, v1426, v1427, v1438, v1439, v1441, v1444, v1446, v1457, v1459, v1460, v1462, v1464, v1466, v1467, v1468, v1469, v1476, v685, v687, v691, v693, v697, v699, v703, v705, v709, v711, v715, v717, v721, v723, v727, v729, v1598, v1599, v1601, v1602, v1604, v1605, v1607, v1608, v1610, v1611, v1613, v1614, v1616, v1617, v1619, v1620, v1542, v1553;
-    u32 v756, v913, v914, v1067, v1068, v1222, v1223, v1390, v1391, v1417, v1418, v1442, v1443;
+    u64 v675, v684, v686, v690, v692, v696, v698, v702, v704, v708, v710, v714, v716, v720, v722, v726, v728, v754, v788, v789, v803, v906, v907, v909, v920, v922, v923, v925, v927, v931, v933, v934, v936, v937, v938, v939, v1012, v1060, v1061, v1063, v1074, v1076, v1077, v1079, v1081, v1085, v1087, v1088, v1090, v1091, v1092, v1093, v1166, v1215, v1216, v1218, v1229, v1231, v1232, v1234, v1236, v1240, v1242, v1243, v1245, v1246, v1247, v1248, v1266, v1369, v1370, v1372, v1383, v1385, v1386, v1388, v1390, v1397, v1398, v1399, v1400, v1402, v1403, v1405, v1410, v1411, v1413, v1424, v1426, v1427, v1429, v1431, v1435, v1437, v1438, v1440, v1441, v1442, v1443, v1454, v1455, v1457, v1460, v1462, v1473, v1475, v1476, v1478, v1480, v1482, v1483, v1484, v1485, v1492, v685, v687, v691, v693, v697, v699, v703, v705, v709, v711, v715, v717, v721, v723, v727, v729, v1614, v1615, v1617, v1618, v1620, v1621, v1623, v1624, v1626, v1627, v1629, v1630, v1632, v1633, v1635, v1636, v1558, v1569;
+    u32 v756, v929, v930, v1083, v1084, v1238, v1239, v1406, v1407, v1433, v1434, v1458, v1459;
     memcpy(v77, v1, 48u);
     u8 v85 = at(u8, v1 + 48);
     memcpy(v78, v1 + 49, 7);
@@ -3747,7 +3760,7 @@ static void command_line_subcommands_with_arguments(u8 *v0, u8 *v1, u8 *v2, u64 
     memcpy(v148, v81, 216u);
     memcpy(v149, v82, 168u);
     memcpy(v150, v83, 24u);
-    if (v3 == 0) { v1597 = v88; v1598 = v90; v1599 = v92; v1600 = v97; v1601 = v99; v1602 = v101; v1603 = v106; v1604 = v108; v1605 = v110; v1606 = v113; v1607 = v115; v1608 = v117; v1609 = v119; v1610 = v121; v1611 = v123; v1612 = v125; v1613 = v127; v1614 = v129; v1615 = v132; v1616 = v134; v1617 = v136; v1618 = v138; v1619 = v140; v1620 = v142; v1621 = v85; v1622 = v94; v1623 = v103; goto v192; }
+    if (v3 == 0) { v1613 = v88; v1614 = v90; v1615 = v92; v1616 = v97; v1617 = v99; v1618 = v101; v1619 = v106; v1620 = v108; v1621 = v110; v1622 = v113; v1623 = v115; v1624 = v117; v1625 = v119; v1626 = v121; v1627 = v123; v1628 = v125; v1629 = v127; v1630 = v129; v1631 = v132; v1632 = v134; v1633 = v136; v1634 = v138; v1635 = v140; v1636 = v142; v1637 = v85; v1638 = v94; v1639 = v103; goto v192; }
     flag v194 = v4 == 2;
     v675 = 0; v678 = v103; v680 = v94; v682 = v85; v684 = v142; v686 = v140; v688 = v138; v690 = v136; v692 = v134; v694 = v132; v696 = v129; v698 = v127; v700 = v125; v702 = v123; v704 = v121; v706 = v119; v708 = v117; v710 = v115; v712 = v113; v714 = v110; v716 = v108; v718 = v106; v720 = v101; v722 = v99; v724 = v97; v726 = v92; v728 = v90; v730 = v88;
 v674:;
@@ -3807,7 +3820,7 @@ v758:;
     memset(v64, 0, 16u);
     memset(v66, 0, 16u);
     memset(v68, 0, 86u);
-    v1393 = v734; v1394 = v736; v1395 = 1; v1396 = v746; v1397 = v748; v1398 = v6; v1399 = v6; v1400 = v6; v1401 = v6; v1402 = v6; v1403 = v6; v1404 = v6; v1405 = v6; v1406 = v6; v1407 = v6; v1408 = 1; v1409 = v6; v1410 = 0; v1411 = 1; v1412 = v6; v1413 = 0; v1414 = v6; v1415 = 0; v1416 = 0; v1417 = 0; v1418 = 0; v1419 = 0; v1420 = (u8 *)0; v1421 = 0; v1422 = 1; v1423 = v6; v1424 = 0; v1425 = 0; v1426 = 0; v1427 = 0; v1428 = 0; v1429 = 0; v1430 = 1; v1431 = 0; v1432 = 0; v1433 = 0; goto v774;
+    v1409 = v734; v1410 = v736; v1411 = 1; v1412 = v746; v1413 = v748; v1414 = v6; v1415 = v6; v1416 = v6; v1417 = v6; v1418 = v6; v1419 = v6; v1420 = v6; v1421 = v6; v1422 = v6; v1423 = v6; v1424 = 1; v1425 = v6; v1426 = 0; v1427 = 1; v1428 = v6; v1429 = 0; v1430 = v6; v1431 = 0; v1432 = 0; v1433 = 0; v1434 = 0; v1435 = 0; v1436 = (u8 *)0; v1437 = 0; v1438 = 1; v1439 = v6; v1440 = 0; v1441 = 0; v1442 = 0; v1443 = 0; v1444 = 0; v1445 = 0; v1446 = 1; v1447 = 0; v1448 = 0; v1449 = 0; goto v774;
 v759:;
     memset(v56, 0, 16u);
     memset(v58, 0, 16u);
@@ -3816,7 +3829,7 @@ v759:;
     memset(v64, 0, 16u);
     memset(v66, 0, 16u);
     memset(v68, 0, 86u);
-    v1393 = v734; v1394 = v736; v1395 = 1; v1396 = v746; v1397 = v748; v1398 = v6; v1399 = v6; v1400 = v6; v1401 = v6; v1402 = v6; v1403 = v6; v1404 = v6; v1405 = v6; v1406 = v6; v1407 = v6; v1408 = 1; v1409 = v6; v1410 = 0; v1411 = 1; v1412 = v6; v1413 = 0; v1414 = v6; v1415 = 0; v1416 = 0; v1417 = 0; v1418 = 0; v1419 = 0; v1420 = (u8 *)0; v1421 = 0; v1422 = 1; v1423 = v6; v1424 = 0; v1425 = 1; v1426 = 0; v1427 = 0xffffffffffffffffu; v1428 = 1; v1429 = 1; v1430 = 0; v1431 = 0; v1432 = 0; v1433 = 0; goto v774;
+    v1409 = v734; v1410 = v736; v1411 = 1; v1412 = v746; v1413 = v748; v1414 = v6; v1415 = v6; v1416 = v6; v1417 = v6; v1418 = v6; v1419 = v6; v1420 = v6; v1421 = v6; v1422 = v6; v1423 = v6; v1424 = 1; v1425 = v6; v1426 = 0; v1427 = 1; v1428 = v6; v1429 = 0; v1430 = v6; v1431 = 0; v1432 = 0; v1433 = 0; v1434 = 0; v1435 = 0; v1436 = (u8 *)0; v1437 = 0; v1438 = 1; v1439 = v6; v1440 = 0; v1441 = 1; v1442 = 0; v1443 = 0xffffffffffffffffu; v1444 = 1; v1445 = 1; v1446 = 0; v1447 = 0; v1448 = 0; v1449 = 0; goto v774;
 v760:;
     memset(v56, 0, 16u);
     memset(v58, 0, 16u);
@@ -3825,7 +3838,7 @@ v760:;
     memset(v64, 0, 16u);
     memset(v66, 0, 16u);
     memset(v68, 0, 86u);
-    v1393 = v734; v1394 = v736; v1395 = 1; v1396 = v746; v1397 = v748; v1398 = v6; v1399 = v6; v1400 = v6; v1401 = v6; v1402 = v6; v1403 = v6; v1404 = v6; v1405 = v6; v1406 = v6; v1407 = v6; v1408 = 1; v1409 = v6; v1410 = 0; v1411 = 1; v1412 = v6; v1413 = 0; v1414 = v6; v1415 = 0; v1416 = 0; v1417 = 0; v1418 = 0; v1419 = 0; v1420 = (u8 *)0; v1421 = 0; v1422 = 1; v1423 = v6; v1424 = 0; v1425 = 1; v1426 = 1; v1427 = 0xffffffffffffffffu; v1428 = 1; v1429 = 1; v1430 = 1; v1431 = 0; v1432 = 0; v1433 = 0; goto v774;
+    v1409 = v734; v1410 = v736; v1411 = 1; v1412 = v746; v1413 = v748; v1414 = v6; v1415 = v6; v1416 = v6; v1417 = v6; v1418 = v6; v1419 = v6; v1420 = v6; v1421 = v6; v1422 = v6; v1423 = v6; v1424 = 1; v1425 = v6; v1426 = 0; v1427 = 1; v1428 = v6; v1429 = 0; v1430 = v6; v1431 = 0; v1432 = 0; v1433 = 0; v1434 = 0; v1435 = 0; v1436 = (u8 *)0; v1437 = 0; v1438 = 1; v1439 = v6; v1440 = 0; v1441 = 1; v1442 = 1; v1443 = 0xffffffffffffffffu; v1444 = 1; v1445 = 1; v1446 = 1; v1447 = 0; v1448 = 0; v1449 = 0; goto v774;
 v761:;
     memset(v56, 0, 16u);
     memset(v58, 0, 16u);
@@ -3834,7 +3847,7 @@ v761:;
     memset(v64, 0, 16u);
     memset(v66, 0, 16u);
     memset(v68, 0, 86u);
-    v1393 = v734; v1394 = v736; v1395 = 1; v1396 = v746; v1397 = v748; v1398 = v6; v1399 = v6; v1400 = v6; v1401 = v6; v1402 = v6; v1403 = v6; v1404 = v6; v1405 = v6; v1406 = v6; v1407 = v6; v1408 = 1; v1409 = v6; v1410 = 0; v1411 = 1; v1412 = v6; v1413 = 0; v1414 = v6; v1415 = 0; v1416 = 0; v1417 = 0; v1418 = 0; v1419 = 1; v1420 = v734; v1421 = v736; v1422 = 1; v1423 = v6; v1424 = 0; v1425 = 0; v1426 = 0; v1427 = 0; v1428 = 1; v1429 = 2; v1430 = 0; v1431 = 0; v1432 = 0; v1433 = 0; goto v774;
+    v1409 = v734; v1410 = v736; v1411 = 1; v1412 = v746; v1413 = v748; v1414 = v6; v1415 = v6; v1416 = v6; v1417 = v6; v1418 = v6; v1419 = v6; v1420 = v6; v1421 = v6; v1422 = v6; v1423 = v6; v1424 = 1; v1425 = v6; v1426 = 0; v1427 = 1; v1428 = v6; v1429 = 0; v1430 = v6; v1431 = 0; v1432 = 0; v1433 = 0; v1434 = 0; v1435 = 1; v1436 = v734; v1437 = v736; v1438 = 1; v1439 = v6; v1440 = 0; v1441 = 0; v1442 = 0; v1443 = 0; v1444 = 1; v1445 = 2; v1446 = 0; v1447 = 0; v1448 = 0; v1449 = 0; goto v774;
 v762:;
     at(ptr, v54) = v734;
     at(u64, v54 + 8) = v736;
@@ -3881,43 +3894,43 @@ v762:;
     memset(v54 + 506, 0, 102u);
     u64 v775 = at(u64, v54 + 280);
     u64 v776 = at(u64, v54 + 272);
-    if (!((v775 - v776) < 3)) { v787 = v6; v788 = v775; v789 = v776; goto v780; }
-    if (!std_alloc_vec_Vec_grow_amortized_1c1d(v54 + 264, 3)) goto v783;
+    if (!(v754 > (v775 - v776))) { v787 = v6; v788 = v775; v789 = v776; goto v780; }
+    if (!std_alloc_vec_Vec_grow_amortized_1c1d(v54 + 264, v754)) goto v783;
     v787 = at(ptr, v54 + 264); v788 = at(u64, v54 + 280); v789 = at(u64, v54 + 272); goto v780;
 v783:;
-    if (at(u64, v54 + 112) == 0) goto v836;
+    if (at(u64, v54 + 112) == 0) goto v852;
     sys_rattle_dealloc(at(ptr, v54 + 96));
-v836:;
-    if (at(u64, v54 + 136) == 0) goto v841;
+v852:;
+    if (at(u64, v54 + 136) == 0) goto v857;
     sys_rattle_dealloc(at(ptr, v54 + 120));
-v841:;
-    if (at(u64, v54 + 160) == 0) goto v846;
+v857:;
+    if (at(u64, v54 + 160) == 0) goto v862;
     sys_rattle_dealloc(at(ptr, v54 + 144));
-v846:;
-    if (at(u64, v54 + 184) == 0) goto v851;
+v862:;
+    if (at(u64, v54 + 184) == 0) goto v867;
     sys_rattle_dealloc(at(ptr, v54 + 168));
-v851:;
-    if (at(u64, v54 + 208) == 0) goto v856;
+v867:;
+    if (at(u64, v54 + 208) == 0) goto v872;
     sys_rattle_dealloc(at(ptr, v54 + 192));
-v856:;
-    if (at(u64, v54 + 232) == 0) goto v861;
+v872:;
+    if (at(u64, v54 + 232) == 0) goto v877;
     sys_rattle_dealloc(at(ptr, v54 + 216));
-v861:;
-    if (at(u64, v54 + 256) == 0) goto v866;
+v877:;
+    if (at(u64, v54 + 256) == 0) goto v882;
     sys_rattle_dealloc(at(ptr, v54 + 240));
-v866:;
-    if (at(u64, v54 + 280) == 0) goto v871;
+v882:;
+    if (at(u64, v54 + 280) == 0) goto v887;
     sys_rattle_dealloc(at(ptr, v54 + 264));
-v871:;
-    if (at(u64, v54 + 304) == 0) goto v876;
+v887:;
+    if (at(u64, v54 + 304) == 0) goto v892;
     sys_rattle_dealloc(at(ptr, v54 + 288));
-v876:;
-    if (at(u64, v54 + 328) == 0) goto v881;
+v892:;
+    if (at(u64, v54 + 328) == 0) goto v897;
     sys_rattle_dealloc(at(ptr, v54 + 312));
-v881:;
-    if (at(u64, v54 + 400) == 0) goto v886;
+v897:;
+    if (at(u64, v54 + 400) == 0) goto v902;
     sys_rattle_dealloc(at(ptr, v54 + 384));
-v886:;
+v902:;
     memset(v55, 0, 24u);
     memset(v56, 0, 16u);
     memset(v57, 0, 16u);
@@ -3933,67 +3946,81 @@ v886:;
     memset(v67, 0, 48u);
     memset(v68, 0, 86u);
     memset(v69, 0, 5);
-    v889 = (u8 *)0; v890 = 0; v891 = 0; v892 = (u8 *)0; v893 = 0; v894 = (u8 *)0; v895 = (u8 *)0; v896 = (u8 *)0; v897 = (u8 *)0; v898 = (u8 *)0; v899 = (u8 *)0; v900 = (u8 *)0; v901 = (u8 *)0; v902 = (u8 *)0; v903 = (u8 *)0; v904 = 0; v905 = (u8 *)0; v906 = 0; v907 = 0; v908 = (u8 *)0; v909 = 0; v910 = (u8 *)0; v911 = 0; v912 = 1; v913 = 0; v914 = 0; v915 = 0; v916 = (u8 *)0; v917 = 0; v918 = 0; v919 = (u8 *)0; v920 = 0; v921 = 0; v922 = 0; v923 = 0; v924 = 0; v925 = 0; v926 = 0; v927 = 0; v928 = 0; v929 = 0; goto v833;
+    v905 = (u8 *)0; v906 = 0; v907 = 0; v908 = (u8 *)0; v909 = 0; v910 = (u8 *)0; v911 = (u8 *)0; v912 = (u8 *)0; v913 = (u8 *)0; v914 = (u8 *)0; v915 = (u8 *)0; v916 = (u8 *)0; v917 = (u8 *)0; v918 = (u8 *)0; v919 = (u8 *)0; v920 = 0; v921 = (u8 *)0; v922 = 0; v923 = 0; v924 = (u8 *)0; v925 = 0; v926 = (u8 *)0; v927 = 0; v928 = 1; v929 = 0; v930 = 0; v931 = 0; v932 = (u8 *)0; v933 = 0; v934 = 0; v935 = (u8 *)0; v936 = 0; v937 = 0; v938 = 0; v939 = 0; v940 = 0; v941 = 0; v942 = 0; v943 = 0; v944 = 0; v945 = 0; goto v849;
 v780:;
-    memcpy(v787 + (i64)(v789 << 4), (u8 *)&table_d90d2d18, 48u);
-    at(u64, v54 + 272) = v789 + 3;
+    u64 v790 = v789 + v754;
+    u64 v791 = v789 << 4;
+    u64 v793 = v754 << 4;
+    if (!((((u64)(v787 + (i64)v791)) - ((u64)v753)) < v793)) goto v799;
+    if (v754 == 0) goto v801;
+    v803 = 0;
+v802:;
+    u64 v805 = v803 << 4;
+    memmove((v787 + (i64)v791) + v805, v753 + v805, 16u);
+    u64 v804 = v803 + 1;
+    if (v804 == v754) goto v801;
+    v803 = v804; goto v802;
+v799:;
+    memmove_any(v787 + (i64)v791, v753, v793);
+v801:;
+    at(u64, v54 + 272) = v790;
     at(u64, v54 + 280) = v788;
-    u8 *v793 = at(ptr, v54);
-    u64 v794 = at(u64, v54 + 8);
-    u64 v795 = at(u64, v54 + 16);
-    u8 *v796 = at(ptr, v54 + 24);
-    u64 v797 = at(u64, v54 + 32);
+    u8 *v809 = at(ptr, v54);
+    u64 v810 = at(u64, v54 + 8);
+    u64 v811 = at(u64, v54 + 16);
+    u8 *v812 = at(ptr, v54 + 24);
+    u64 v813 = at(u64, v54 + 32);
     memcpy(v55, v54 + 40, 24u);
-    u32 v798 = at(u32, v54 + 64);
-    u32 v799 = at(u32, v54 + 68);
-    u64 v800 = at(u64, v54 + 72);
-    u8 *v801 = at(ptr, v54 + 80);
-    u64 v802 = at(u64, v54 + 88);
-    u8 *v803 = at(ptr, v54 + 96);
+    u32 v814 = at(u32, v54 + 64);
+    u32 v815 = at(u32, v54 + 68);
+    u64 v816 = at(u64, v54 + 72);
+    u8 *v817 = at(ptr, v54 + 80);
+    u64 v818 = at(u64, v54 + 88);
+    u8 *v819 = at(ptr, v54 + 96);
     memcpy(v56, v54 + 104, 16u);
-    u8 *v804 = at(ptr, v54 + 120);
+    u8 *v820 = at(ptr, v54 + 120);
     memcpy(v57, v54 + 128, 16u);
-    u8 *v805 = at(ptr, v54 + 144);
+    u8 *v821 = at(ptr, v54 + 144);
     memcpy(v58, v54 + 152, 16u);
-    u8 *v806 = at(ptr, v54 + 168);
+    u8 *v822 = at(ptr, v54 + 168);
     memcpy(v59, v54 + 176, 16u);
-    u8 *v807 = at(ptr, v54 + 192);
+    u8 *v823 = at(ptr, v54 + 192);
     memcpy(v60, v54 + 200, 16u);
-    u8 *v808 = at(ptr, v54 + 216);
+    u8 *v824 = at(ptr, v54 + 216);
     memcpy(v61, v54 + 224, 16u);
-    u8 *v809 = at(ptr, v54 + 240);
+    u8 *v825 = at(ptr, v54 + 240);
     memcpy(v62, v54 + 248, 16u);
-    u8 *v810 = at(ptr, v54 + 264);
+    u8 *v826 = at(ptr, v54 + 264);
     memcpy(v63, v54 + 272, 16u);
-    u8 *v811 = at(ptr, v54 + 288);
+    u8 *v827 = at(ptr, v54 + 288);
     memcpy(v64, v54 + 296, 16u);
-    u8 *v812 = at(ptr, v54 + 312);
+    u8 *v828 = at(ptr, v54 + 312);
     memcpy(v65, v54 + 320, 16u);
-    u64 v813 = at(u64, v54 + 336);
-    u8 *v814 = at(ptr, v54 + 344);
-    u64 v815 = at(u64, v54 + 352);
-    u64 v816 = at(u64, v54 + 360);
-    u8 *v817 = at(ptr, v54 + 368);
-    u64 v818 = at(u64, v54 + 376);
-    u8 *v819 = at(ptr, v54 + 384);
+    u64 v829 = at(u64, v54 + 336);
+    u8 *v830 = at(ptr, v54 + 344);
+    u64 v831 = at(u64, v54 + 352);
+    u64 v832 = at(u64, v54 + 360);
+    u8 *v833 = at(ptr, v54 + 368);
+    u64 v834 = at(u64, v54 + 376);
+    u8 *v835 = at(ptr, v54 + 384);
     memcpy(v66, v54 + 392, 16u);
-    u64 v820 = at(u64, v54 + 408);
-    u8 *v821 = at(ptr, v54 + 416);
-    u64 v822 = at(u64, v54 + 424);
-    u64 v823 = at(u64, v54 + 432);
-    u64 v824 = at(u64, v54 + 440);
-    u64 v825 = at(u64, v54 + 448);
+    u64 v836 = at(u64, v54 + 408);
+    u8 *v837 = at(ptr, v54 + 416);
+    u64 v838 = at(u64, v54 + 424);
+    u64 v839 = at(u64, v54 + 432);
+    u64 v840 = at(u64, v54 + 440);
+    u64 v841 = at(u64, v54 + 448);
     memcpy(v67, v54 + 456, 48u);
-    u8 v826 = at(u8, v54 + 504);
-    u8 v827 = at(u8, v54 + 505);
+    u8 v842 = at(u8, v54 + 504);
+    u8 v843 = at(u8, v54 + 505);
     memcpy(v68, v54 + 506, 86u);
-    u8 v828 = at(u8, v54 + 592);
-    u8 v829 = at(u8, v54 + 593);
-    u8 v830 = at(u8, v54 + 594);
+    u8 v844 = at(u8, v54 + 592);
+    u8 v845 = at(u8, v54 + 593);
+    u8 v846 = at(u8, v54 + 594);
     memcpy(v69, v54 + 595, 5);
-    v889 = v793; v890 = v794; v891 = v795; v892 = v796; v893 = v797; v894 = v803; v895 = v804; v896 = v805; v897 = v806; v898 = v807; v899 = v808; v900 = v809; v901 = v810; v902 = v811; v903 = v812; v904 = v813; v905 = v814; v906 = v815; v907 = v816; v908 = v817; v909 = v818; v910 = v819; v911 = load56(v54 + 601); v912 = 0; v913 = v798; v914 = v799; v915 = v800; v916 = v801; v917 = v802; v918 = v820; v919 = v821; v920 = v822; v921 = v823; v922 = v824; v923 = v825; v924 = v826; v925 = v827; v926 = v828; v927 = v829; v928 = v830; v929 = at(u8, v54 + 600);
-v833:;
-    v1393 = v889; v1394 = v890; v1395 = v891; v1396 = v892; v1397 = v893; v1398 = v894; v1399 = v895; v1400 = v896; v1401 = v897; v1402 = v898; v1403 = v899; v1404 = v900; v1405 = v901; v1406 = v902; v1407 = v903; v1408 = v904; v1409 = v905; v1410 = v906; v1411 = v907; v1412 = v908; v1413 = v909; v1414 = v910; v1415 = v911; v1416 = v912; v1417 = v913; v1418 = v914; v1419 = v915; v1420 = v916; v1421 = v917; v1422 = v918; v1423 = v919; v1424 = v920; v1425 = v921; v1426 = v922; v1427 = v923; v1428 = v924; v1429 = v925; v1430 = v926; v1431 = v927; v1432 = v928; v1433 = v929; goto v774;
+    v905 = v809; v906 = v810; v907 = v811; v908 = v812; v909 = v813; v910 = v819; v911 = v820; v912 = v821; v913 = v822; v914 = v823; v915 = v824; v916 = v825; v917 = v826; v918 = v827; v919 = v828; v920 = v829; v921 = v830; v922 = v831; v923 = v832; v924 = v833; v925 = v834; v926 = v835; v927 = load56(v54 + 601); v928 = 0; v929 = v814; v930 = v815; v931 = v816; v932 = v817; v933 = v818; v934 = v836; v935 = v837; v936 = v838; v937 = v839; v938 = v840; v939 = v841; v940 = v842; v941 = v843; v942 = v844; v943 = v845; v944 = v846; v945 = at(u8, v54 + 600);
+v849:;
+    v1409 = v905; v1410 = v906; v1411 = v907; v1412 = v908; v1413 = v909; v1414 = v910; v1415 = v911; v1416 = v912; v1417 = v913; v1418 = v914; v1419 = v915; v1420 = v916; v1421 = v917; v1422 = v918; v1423 = v919; v1424 = v920; v1425 = v921; v1426 = v922; v1427 = v923; v1428 = v924; v1429 = v925; v1430 = v926; v1431 = v927; v1432 = v928; v1433 = v929; v1434 = v930; v1435 = v931; v1436 = v932; v1437 = v933; v1438 = v934; v1439 = v935; v1440 = v936; v1441 = v937; v1442 = v938; v1443 = v939; v1444 = v940; v1445 = v941; v1446 = v942; v1447 = v943; v1448 = v944; v1449 = v945; goto v774;
 v763:;
     memset(v51, 0, 616u);
     at(ptr, v50) = v734;
@@ -4039,44 +4066,44 @@ v763:;
     at(u8, v50 + 504) = 1;
     at(u8, v50 + 505) = 2;
     memset(v50 + 506, 0, 102u);
-    u64 v931 = at(u64, v50 + 320);
-    if (!(at(u64, v50 + 328) == v931)) { v995 = v6; v996 = v931; goto v934; }
-    if (!std_alloc_vec_Vec_grow_amortized_1c1d(v50 + 312, 1)) goto v937;
-    v995 = at(ptr, v50 + 312); v996 = at(u64, v50 + 320); goto v934;
-v937:;
-    if (at(u64, v50 + 112) == 0) goto v942;
+    u64 v947 = at(u64, v50 + 320);
+    if (!(at(u64, v50 + 328) == v947)) { v1011 = v6; v1012 = v947; goto v950; }
+    if (!std_alloc_vec_Vec_grow_amortized_1c1d(v50 + 312, 1)) goto v953;
+    v1011 = at(ptr, v50 + 312); v1012 = at(u64, v50 + 320); goto v950;
+v953:;
+    if (at(u64, v50 + 112) == 0) goto v958;
     sys_rattle_dealloc(at(ptr, v50 + 96));
-v942:;
-    if (at(u64, v50 + 136) == 0) goto v947;
+v958:;
+    if (at(u64, v50 + 136) == 0) goto v963;
     sys_rattle_dealloc(at(ptr, v50 + 120));
-v947:;
-    if (at(u64, v50 + 160) == 0) goto v952;
+v963:;
+    if (at(u64, v50 + 160) == 0) goto v968;
     sys_rattle_dealloc(at(ptr, v50 + 144));
-v952:;
-    if (at(u64, v50 + 184) == 0) goto v957;
+v968:;
+    if (at(u64, v50 + 184) == 0) goto v973;
     sys_rattle_dealloc(at(ptr, v50 + 168));
-v957:;
-    if (at(u64, v50 + 208) == 0) goto v962;
+v973:;
+    if (at(u64, v50 + 208) == 0) goto v978;
     sys_rattle_dealloc(at(ptr, v50 + 192));
-v962:;
-    if (at(u64, v50 + 232) == 0) goto v967;
+v978:;
+    if (at(u64, v50 + 232) == 0) goto v983;
     sys_rattle_dealloc(at(ptr, v50 + 216));
-v967:;
-    if (at(u64, v50 + 256) == 0) goto v972;
+v983:;
+    if (at(u64, v50 + 256) == 0) goto v988;
     sys_rattle_dealloc(at(ptr, v50 + 240));
-v972:;
-    if (at(u64, v50 + 280) == 0) goto v977;
+v988:;
+    if (at(u64, v50 + 280) == 0) goto v993;
     sys_rattle_dealloc(at(ptr, v50 + 264));
-v977:;
-    if (at(u64, v50 + 304) == 0) goto v982;
+v993:;
+    if (at(u64, v50 + 304) == 0) goto v998;
     sys_rattle_dealloc(at(ptr, v50 + 288));
-v982:;
-    if (at(u64, v50 + 328) == 0) goto v987;
+v998:;
+    if (at(u64, v50 + 328) == 0) goto v1003;
     sys_rattle_dealloc(at(ptr, v50 + 312));
-v987:;
-    if (at(u64, v50 + 400) == 0) goto v992;
+v1003:;
+    if (at(u64, v50 + 400) == 0) goto v1008;
     sys_rattle_dealloc(at(ptr, v50 + 384));
-v992:;
+v1008:;
     memset(v55, 0, 24u);
     memset(v56, 0, 16u);
     memset(v57, 0, 16u);
@@ -4092,72 +4119,72 @@ v992:;
     memset(v67, 0, 48u);
     memset(v68, 0, 86u);
     memset(v69, 0, 5);
-    v1043 = (u8 *)0; v1044 = 0; v1045 = 0; v1046 = (u8 *)0; v1047 = 0; v1048 = (u8 *)0; v1049 = (u8 *)0; v1050 = (u8 *)0; v1051 = (u8 *)0; v1052 = (u8 *)0; v1053 = (u8 *)0; v1054 = (u8 *)0; v1055 = (u8 *)0; v1056 = (u8 *)0; v1057 = (u8 *)0; v1058 = 0; v1059 = (u8 *)0; v1060 = 0; v1061 = 0; v1062 = (u8 *)0; v1063 = 0; v1064 = (u8 *)0; v1065 = 0; v1066 = 1; v1067 = 0; v1068 = 0; v1069 = 0; v1070 = (u8 *)0; v1071 = 0; v1072 = 0; v1073 = (u8 *)0; v1074 = 0; v1075 = 0; v1076 = 0; v1077 = 0; v1078 = 0; v1079 = 0; v1080 = 0; v1081 = 0; v1082 = 0; v1083 = 0; goto v1042;
-v934:;
-    u64 v997 = v996 << 4;
-    at(ptr_1, v995 + v997) = (u8 *)text_keeps_layout;
-    at(u64_1, v995 + v997 + 8) = 12u;
-    at(u64, v50 + 320) = v996 + 1;
+    v1059 = (u8 *)0; v1060 = 0; v1061 = 0; v1062 = (u8 *)0; v1063 = 0; v1064 = (u8 *)0; v1065 = (u8 *)0; v1066 = (u8 *)0; v1067 = (u8 *)0; v1068 = (u8 *)0; v1069 = (u8 *)0; v1070 = (u8 *)0; v1071 = (u8 *)0; v1072 = (u8 *)0; v1073 = (u8 *)0; v1074 = 0; v1075 = (u8 *)0; v1076 = 0; v1077 = 0; v1078 = (u8 *)0; v1079 = 0; v1080 = (u8 *)0; v1081 = 0; v1082 = 1; v1083 = 0; v1084 = 0; v1085 = 0; v1086 = (u8 *)0; v1087 = 0; v1088 = 0; v1089 = (u8 *)0; v1090 = 0; v1091 = 0; v1092 = 0; v1093 = 0; v1094 = 0; v1095 = 0; v1096 = 0; v1097 = 0; v1098 = 0; v1099 = 0; goto v1058;
+v950:;
+    u64 v1013 = v1012 << 4;
+    at(ptr_1, v1011 + v1013) = (u8 *)text_keeps_layout;
+    at(u64_1, v1011 + v1013 + 8) = 12u;
+    at(u64, v50 + 320) = v1012 + 1;
     memcpy(v53 + 7, v50, 608u);
     memcpy(v52, v53 + 7, 608u);
     clap_builder_arg_Arg_conflicts_with(v51, v52);
-    u8 v1001 = at(u8, v51);
-    u8 *v1002 = at(ptr, v51 + 8);
-    u64 v1003 = at(u64, v51 + 16);
-    u64 v1004 = at(u64, v51 + 24);
-    u8 *v1005 = at(ptr, v51 + 32);
-    u64 v1006 = at(u64, v51 + 40);
+    u8 v1017 = at(u8, v51);
+    u8 *v1018 = at(ptr, v51 + 8);
+    u64 v1019 = at(u64, v51 + 16);
+    u64 v1020 = at(u64, v51 + 24);
+    u8 *v1021 = at(ptr, v51 + 32);
+    u64 v1022 = at(u64, v51 + 40);
     memcpy(v55, v51 + 48, 24u);
-    u32 v1007 = at(u32, v51 + 72);
-    u32 v1008 = at(u32, v51 + 76);
-    u64 v1009 = at(u64, v51 + 80);
-    u8 *v1010 = at(ptr, v51 + 88);
-    u64 v1011 = at(u64, v51 + 96);
-    u8 *v1012 = at(ptr, v51 + 104);
+    u32 v1023 = at(u32, v51 + 72);
+    u32 v1024 = at(u32, v51 + 76);
+    u64 v1025 = at(u64, v51 + 80);
+    u8 *v1026 = at(ptr, v51 + 88);
+    u64 v1027 = at(u64, v51 + 96);
+    u8 *v1028 = at(ptr, v51 + 104);
     memcpy(v56, v51 + 112, 16u);
-    u8 *v1013 = at(ptr, v51 + 128);
+    u8 *v1029 = at(ptr, v51 + 128);
     memcpy(v57, v51 + 136, 16u);
-    u8 *v1014 = at(ptr, v51 + 152);
+    u8 *v1030 = at(ptr, v51 + 152);
     memcpy(v58, v51 + 160, 16u);
-    u8 *v1015 = at(ptr, v51 + 176);
+    u8 *v1031 = at(ptr, v51 + 176);
     memcpy(v59, v51 + 184, 16u);
-    u8 *v1016 = at(ptr, v51 + 200);
+    u8 *v1032 = at(ptr, v51 + 200);
     memcpy(v60, v51 + 208, 16u);
-    u8 *v1017 = at(ptr, v51 + 224);
+    u8 *v1033 = at(ptr, v51 + 224);
     memcpy(v61, v51 + 232, 16u);
-    u8 *v1018 = at(ptr, v51 + 248);
+    u8 *v1034 = at(ptr, v51 + 248);
     memcpy(v62, v51 + 256, 16u);
-    u8 *v1019 = at(ptr, v51 + 272);
+    u8 *v1035 = at(ptr, v51 + 272);
     memcpy(v63, v51 + 280, 16u);
-    u8 *v1020 = at(ptr, v51 + 296);
+    u8 *v1036 = at(ptr, v51 + 296);
     memcpy(v64, v51 + 304, 16u);
-    u8 *v1021 = at(ptr, v51 + 320);
+    u8 *v1037 = at(ptr, v51 + 320);
     memcpy(v65, v51 + 328, 16u);
-    u64 v1022 = at(u64, v51 + 344);
-    u8 *v1023 = at(ptr, v51 + 352);
-    u64 v1024 = at(u64, v51 + 360);
-    u64 v1025 = at(u64, v51 + 368);
-    u8 *v1026 = at(ptr, v51 + 376);
-    u64 v1027 = at(u64, v51 + 384);
-    u8 *v1028 = at(ptr, v51 + 392);
+    u64 v1038 = at(u64, v51 + 344);
+    u8 *v1039 = at(ptr, v51 + 352);
+    u64 v1040 = at(u64, v51 + 360);
+    u64 v1041 = at(u64, v51 + 368);
+    u8 *v1042 = at(ptr, v51 + 376);
+    u64 v1043 = at(u64, v51 + 384);
+    u8 *v1044 = at(ptr, v51 + 392);
     memcpy(v66, v51 + 400, 16u);
-    u64 v1029 = at(u64, v51 + 416);
-    u8 *v1030 = at(ptr, v51 + 424);
-    u64 v1031 = at(u64, v51 + 432);
-    u64 v1032 = at(u64, v51 + 440);
-    u64 v1033 = at(u64, v51 + 448);
-    u64 v1034 = at(u64, v51 + 456);
+    u64 v1045 = at(u64, v51 + 416);
+    u8 *v1046 = at(ptr, v51 + 424);
+    u64 v1047 = at(u64, v51 + 432);
+    u64 v1048 = at(u64, v51 + 440);
+    u64 v1049 = at(u64, v51 + 448);
+    u64 v1050 = at(u64, v51 + 456);
     memcpy(v67, v51 + 464, 48u);
-    u8 v1035 = at(u8, v51 + 512);
-    u8 v1036 = at(u8, v51 + 513);
+    u8 v1051 = at(u8, v51 + 512);
+    u8 v1052 = at(u8, v51 + 513);
     memcpy(v68, v51 + 514, 86u);
-    u8 v1037 = at(u8, v51 + 600);
-    u8 v1038 = at(u8, v51 + 601);
-    u8 v1039 = at(u8, v51 + 602);
+    u8 v1053 = at(u8, v51 + 600);
+    u8 v1054 = at(u8, v51 + 601);
+    u8 v1055 = at(u8, v51 + 602);
     memcpy(v69, v51 + 603, 5);
-    v1043 = v1002; v1044 = v1003; v1045 = v1004; v1046 = v1005; v1047 = v1006; v1048 = v1012; v1049 = v1013; v1050 = v1014; v1051 = v1015; v1052 = v1016; v1053 = v1017; v1054 = v1018; v1055 = v1019; v1056 = v1020; v1057 = v1021; v1058 = v1022; v1059 = v1023; v1060 = v1024; v1061 = v1025; v1062 = v1026; v1063 = v1027; v1064 = v1028; v1065 = load56(v51 + 609); v1066 = v1001; v1067 = v1007; v1068 = v1008; v1069 = v1009; v1070 = v1010; v1071 = v1011; v1072 = v1029; v1073 = v1030; v1074 = v1031; v1075 = v1032; v1076 = v1033; v1077 = v1034; v1078 = v1035; v1079 = v1036; v1080 = v1037; v1081 = v1038; v1082 = v1039; v1083 = at(u8, v51 + 608);
-v1042:;
-    v1393 = v1043; v1394 = v1044; v1395 = v1045; v1396 = v1046; v1397 = v1047; v1398 = v1048; v1399 = v1049; v1400 = v1050; v1401 = v1051; v1402 = v1052; v1403 = v1053; v1404 = v1054; v1405 = v1055; v1406 = v1056; v1407 = v1057; v1408 = v1058; v1409 = v1059; v1410 = v1060; v1411 = v1061; v1412 = v1062; v1413 = v1063; v1414 = v1064; v1415 = v1065; v1416 = v1066; v1417 = v1067; v1418 = v1068; v1419 = v1069; v1420 = v1070; v1421 = v1071; v1422 = v1072; v1423 = v1073; v1424 = v1074; v1425 = v1075; v1426 = v1076; v1427 = v1077; v1428 = v1078; v1429 = v1079; v1430 = v1080; v1431 = v1081; v1432 = v1082; v1433 = v1083; goto v774;
+    v1059 = v1018; v1060 = v1019; v1061 = v1020; v1062 = v1021; v1063 = v1022; v1064 = v1028; v1065 = v1029; v1066 = v1030; v1067 = v1031; v1068 = v1032; v1069 = v1033; v1070 = v1034; v1071 = v1035; v1072 = v1036; v1073 = v1037; v1074 = v1038; v1075 = v1039; v1076 = v1040; v1077 = v1041; v1078 = v1042; v1079 = v1043; v1080 = v1044; v1081 = load56(v51 + 609); v1082 = v1017; v1083 = v1023; v1084 = v1024; v1085 = v1025; v1086 = v1026; v1087 = v1027; v1088 = v1045; v1089 = v1046; v1090 = v1047; v1091 = v1048; v1092 = v1049; v1093 = v1050; v1094 = v1051; v1095 = v1052; v1096 = v1053; v1097 = v1054; v1098 = v1055; v1099 = at(u8, v51 + 608);
+v1058:;
+    v1409 = v1059; v1410 = v1060; v1411 = v1061; v1412 = v1062; v1413 = v1063; v1414 = v1064; v1415 = v1065; v1416 = v1066; v1417 = v1067; v1418 = v1068; v1419 = v1069; v1420 = v1070; v1421 = v1071; v1422 = v1072; v1423 = v1073; v1424 = v1074; v1425 = v1075; v1426 = v1076; v1427 = v1077; v1428 = v1078; v1429 = v1079; v1430 = v1080; v1431 = v1081; v1432 = v1082; v1433 = v1083; v1434 = v1084; v1435 = v1085; v1436 = v1086; v1437 = v1087; v1438 = v1088; v1439 = v1089; v1440 = v1090; v1441 = v1091; v1442 = v1092; v1443 = v1093; v1444 = v1094; v1445 = v1095; v1446 = v1096; v1447 = v1097; v1448 = v1098; v1449 = v1099; goto v774;
 v764:;
     memset(v56, 0, 16u);
     memset(v58, 0, 16u);
@@ -4166,7 +4193,7 @@ v764:;
     memset(v64, 0, 16u);
     memset(v66, 0, 16u);
     memset(v68, 0, 86u);
-    v1393 = v734; v1394 = v736; v1395 = 1; v1396 = v746; v1397 = v748; v1398 = v6; v1399 = v6; v1400 = v6; v1401 = v6; v1402 = v6; v1403 = v6; v1404 = v6; v1405 = v6; v1406 = v6; v1407 = v6; v1408 = 1; v1409 = v6; v1410 = 0; v1411 = 1; v1412 = v6; v1413 = 0; v1414 = v6; v1415 = 0; v1416 = 0; v1417 = 0; v1418 = 0; v1419 = 1; v1420 = v734; v1421 = v736; v1422 = 0; v1423 = v753; v1424 = v754; v1425 = 0; v1426 = 0; v1427 = 0; v1428 = 0; v1429 = 0; v1430 = 0; v1431 = 0; v1432 = 0; v1433 = 0; goto v774;
+    v1409 = v734; v1410 = v736; v1411 = 1; v1412 = v746; v1413 = v748; v1414 = v6; v1415 = v6; v1416 = v6; v1417 = v6; v1418 = v6; v1419 = v6; v1420 = v6; v1421 = v6; v1422 = v6; v1423 = v6; v1424 = 1; v1425 = v6; v1426 = 0; v1427 = 1; v1428 = v6; v1429 = 0; v1430 = v6; v1431 = 0; v1432 = 0; v1433 = 0; v1434 = 0; v1435 = 1; v1436 = v734; v1437 = v736; v1438 = 0; v1439 = v753; v1440 = v754; v1441 = 0; v1442 = 0; v1443 = 0; v1444 = 0; v1445 = 0; v1446 = 0; v1447 = 0; v1448 = 0; v1449 = 0; goto v774;
 v765:;
     memset(v56, 0, 16u);
     memset(v58, 0, 16u);
@@ -4175,7 +4202,7 @@ v765:;
     memset(v64, 0, 16u);
     memset(v66, 0, 16u);
     memset(v68, 0, 86u);
-    v1393 = v734; v1394 = v736; v1395 = 1; v1396 = v746; v1397 = v748; v1398 = v6; v1399 = v6; v1400 = v6; v1401 = v6; v1402 = v6; v1403 = v6; v1404 = v6; v1405 = v6; v1406 = v6; v1407 = v6; v1408 = 1; v1409 = v6; v1410 = 0; v1411 = 1; v1412 = v6; v1413 = 0; v1414 = v6; v1415 = 0; v1416 = 0; v1417 = 0; v1418 = 0; v1419 = 1; v1420 = v734; v1421 = v736; v1422 = 0; v1423 = v753; v1424 = v754; v1425 = 0; v1426 = 0; v1427 = 0; v1428 = 0; v1429 = 0; v1430 = 1; v1431 = 0; v1432 = 0; v1433 = 0; goto v774;
+    v1409 = v734; v1410 = v736; v1411 = 1; v1412 = v746; v1413 = v748; v1414 = v6; v1415 = v6; v1416 = v6; v1417 = v6; v1418 = v6; v1419 = v6; v1420 = v6; v1421 = v6; v1422 = v6; v1423 = v6; v1424 = 1; v1425 = v6; v1426 = 0; v1427 = 1; v1428 = v6; v1429 = 0; v1430 = v6; v1431 = 0; v1432 = 0; v1433 = 0; v1434 = 0; v1435 = 1; v1436 = v734; v1437 = v736; v1438 = 0; v1439 = v753; v1440 = v754; v1441 = 0; v1442 = 0; v1443 = 0; v1444 = 0; v1445 = 0; v1446 = 1; v1447 = 0; v1448 = 0; v1449 = 0; goto v774;
 v766:;
     memset(v56, 0, 16u);
     memset(v58, 0, 16u);
@@ -4184,7 +4211,7 @@ v766:;
     memset(v64, 0, 16u);
     memset(v66, 0, 16u);
     memset(v68, 0, 86u);
-    v1393 = v734; v1394 = v736; v1395 = 1; v1396 = v746; v1397 = v748; v1398 = v6; v1399 = v6; v1400 = v6; v1401 = v6; v1402 = v6; v1403 = v6; v1404 = v6; v1405 = v6; v1406 = v6; v1407 = v6; v1408 = 1; v1409 = v6; v1410 = 0; v1411 = 1; v1412 = v6; v1413 = 0; v1414 = v6; v1415 = 0; v1416 = 0; v1417 = 0; v1418 = 0; v1419 = 1; v1420 = v734; v1421 = v736; v1422 = 0; v1423 = v753; v1424 = v754; v1425 = 0; v1426 = 0; v1427 = 0; v1428 = 1; v1429 = 1; v1430 = 0; v1431 = 0; v1432 = 0; v1433 = 0; goto v774;
+    v1409 = v734; v1410 = v736; v1411 = 1; v1412 = v746; v1413 = v748; v1414 = v6; v1415 = v6; v1416 = v6; v1417 = v6; v1418 = v6; v1419 = v6; v1420 = v6; v1421 = v6; v1422 = v6; v1423 = v6; v1424 = 1; v1425 = v6; v1426 = 0; v1427 = 1; v1428 = v6; v1429 = 0; v1430 = v6; v1431 = 0; v1432 = 0; v1433 = 0; v1434 = 0; v1435 = 1; v1436 = v734; v1437 = v736; v1438 = 0; v1439 = v753; v1440 = v754; v1441 = 0; v1442 = 0; v1443 = 0; v1444 = 1; v1445 = 1; v1446 = 0; v1447 = 0; v1448 = 0; v1449 = 0; goto v774;
 v767:;
     memset(v56, 0, 16u);
     memset(v58, 0, 16u);
@@ -4193,7 +4220,7 @@ v767:;
     memset(v64, 0, 16u);
     memset(v66, 0, 16u);
     memset(v68, 0, 86u);
-    v1393 = v734; v1394 = v736; v1395 = 1; v1396 = v746; v1397 = v748; v1398 = v6; v1399 = v6; v1400 = v6; v1401 = v6; v1402 = v6; v1403 = v6; v1404 = v6; v1405 = v6; v1406 = v6; v1407 = v6; v1408 = 1; v1409 = v6; v1410 = 0; v1411 = 1; v1412 = v6; v1413 = 0; v1414 = v6; v1415 = 0; v1416 = 0; v1417 = 0; v1418 = 0; v1419 = 1; v1420 = v734; v1421 = v736; v1422 = 0; v1423 = v753; v1424 = v754; v1425 = 0; v1426 = 0; v1427 = 0; v1428 = 1; v1429 = 1; v1430 = 0; v1431 = 0; v1432 = 0; v1433 = 1; goto v774;
+    v1409 = v734; v1410 = v736; v1411 = 1; v1412 = v746; v1413 = v748; v1414 = v6; v1415 = v6; v1416 = v6; v1417 = v6; v1418 = v6; v1419 = v6; v1420 = v6; v1421 = v6; v1422 = v6; v1423 = v6; v1424 = 1; v1425 = v6; v1426 = 0; v1427 = 1; v1428 = v6; v1429 = 0; v1430 = v6; v1431 = 0; v1432 = 0; v1433 = 0; v1434 = 0; v1435 = 1; v1436 = v734; v1437 = v736; v1438 = 0; v1439 = v753; v1440 = v754; v1441 = 0; v1442 = 0; v1443 = 0; v1444 = 1; v1445 = 1; v1446 = 0; v1447 = 0; v1448 = 0; v1449 = 1; goto v774;
 v768:;
     memset(v47, 0, 616u);
     memset(v48, 0, 608u);
@@ -4249,44 +4276,44 @@ v768:;
     at(u64, v46 + 520) = 9;
     at(ptr, v46 + 528) = (u8 *)&table_054043a3;
     at(u64, v46 + 536) = 5;
-    u64 v1085 = at(u64, v46 + 152);
-    if (!(at(u64, v46 + 160) == v1085)) { v1149 = v6; v1150 = v1085; goto v1088; }
-    if (!std_alloc_vec_Vec_grow_amortized_0e78(v46 + 144)) goto v1091;
-    v1149 = at(ptr, v46 + 144); v1150 = at(u64, v46 + 152); goto v1088;
-v1091:;
-    if (at(u64, v46 + 112) == 0) goto v1096;
+    u64 v1101 = at(u64, v46 + 152);
+    if (!(at(u64, v46 + 160) == v1101)) { v1165 = v6; v1166 = v1101; goto v1104; }
+    if (!std_alloc_vec_Vec_grow_amortized_0e78(v46 + 144)) goto v1107;
+    v1165 = at(ptr, v46 + 144); v1166 = at(u64, v46 + 152); goto v1104;
+v1107:;
+    if (at(u64, v46 + 112) == 0) goto v1112;
     sys_rattle_dealloc(at(ptr, v46 + 96));
-v1096:;
-    if (at(u64, v46 + 136) == 0) goto v1101;
+v1112:;
+    if (at(u64, v46 + 136) == 0) goto v1117;
     sys_rattle_dealloc(at(ptr, v46 + 120));
-v1101:;
-    if (at(u64, v46 + 160) == 0) goto v1106;
+v1117:;
+    if (at(u64, v46 + 160) == 0) goto v1122;
     sys_rattle_dealloc(at(ptr, v46 + 144));
-v1106:;
-    if (at(u64, v46 + 184) == 0) goto v1111;
+v1122:;
+    if (at(u64, v46 + 184) == 0) goto v1127;
     sys_rattle_dealloc(at(ptr, v46 + 168));
-v1111:;
-    if (at(u64, v46 + 208) == 0) goto v1116;
+v1127:;
+    if (at(u64, v46 + 208) == 0) goto v1132;
     sys_rattle_dealloc(at(ptr, v46 + 192));
-v1116:;
-    if (at(u64, v46 + 232) == 0) goto v1121;
+v1132:;
+    if (at(u64, v46 + 232) == 0) goto v1137;
     sys_rattle_dealloc(at(ptr, v46 + 216));
-v1121:;
-    if (at(u64, v46 + 256) == 0) goto v1126;
+v1137:;
+    if (at(u64, v46 + 256) == 0) goto v1142;
     sys_rattle_dealloc(at(ptr, v46 + 240));
-v1126:;
-    if (at(u64, v46 + 280) == 0) goto v1131;
+v1142:;
+    if (at(u64, v46 + 280) == 0) goto v1147;
     sys_rattle_dealloc(at(ptr, v46 + 264));
-v1131:;
-    if (at(u64, v46 + 304) == 0) goto v1136;
+v1147:;
+    if (at(u64, v46 + 304) == 0) goto v1152;
     sys_rattle_dealloc(at(ptr, v46 + 288));
-v1136:;
-    if (at(u64, v46 + 328) == 0) goto v1141;
+v1152:;
+    if (at(u64, v46 + 328) == 0) goto v1157;
     sys_rattle_dealloc(at(ptr, v46 + 312));
-v1141:;
-    if (at(u64, v46 + 400) == 0) goto v1146;
+v1157:;
+    if (at(u64, v46 + 400) == 0) goto v1162;
     sys_rattle_dealloc(at(ptr, v46 + 384));
-v1146:;
+v1162:;
     memset(v55, 0, 24u);
     memset(v56, 0, 16u);
     memset(v57, 0, 16u);
@@ -4302,73 +4329,73 @@ v1146:;
     memset(v67, 0, 48u);
     memset(v68, 0, 86u);
     memset(v69, 0, 5);
-    v1198 = (u8 *)0; v1199 = 0; v1200 = 0; v1201 = (u8 *)0; v1202 = 0; v1203 = (u8 *)0; v1204 = (u8 *)0; v1205 = (u8 *)0; v1206 = (u8 *)0; v1207 = (u8 *)0; v1208 = (u8 *)0; v1209 = (u8 *)0; v1210 = (u8 *)0; v1211 = (u8 *)0; v1212 = (u8 *)0; v1213 = 0; v1214 = (u8 *)0; v1215 = 0; v1216 = 0; v1217 = (u8 *)0; v1218 = 0; v1219 = (u8 *)0; v1220 = 0; v1221 = 1; v1222 = 0; v1223 = 0; v1224 = 0; v1225 = (u8 *)0; v1226 = 0; v1227 = 0; v1228 = (u8 *)0; v1229 = 0; v1230 = 0; v1231 = 0; v1232 = 0; v1233 = 0; v1234 = 0; v1235 = 0; v1236 = 0; v1237 = 0; v1238 = 0; goto v1197;
-v1088:;
-    u64 v1151 = v1150 * 40u;
-    memset(v1149 + v1151, 0, 24u);
-    at(ptr_1, v1149 + v1151 + 24) = (u8 *)text_keeps_layout;
-    at(u64_1, v1149 + v1151 + 32) = 12u;
-    at(u64, v46 + 152) = v1150 + 1;
+    v1214 = (u8 *)0; v1215 = 0; v1216 = 0; v1217 = (u8 *)0; v1218 = 0; v1219 = (u8 *)0; v1220 = (u8 *)0; v1221 = (u8 *)0; v1222 = (u8 *)0; v1223 = (u8 *)0; v1224 = (u8 *)0; v1225 = (u8 *)0; v1226 = (u8 *)0; v1227 = (u8 *)0; v1228 = (u8 *)0; v1229 = 0; v1230 = (u8 *)0; v1231 = 0; v1232 = 0; v1233 = (u8 *)0; v1234 = 0; v1235 = (u8 *)0; v1236 = 0; v1237 = 1; v1238 = 0; v1239 = 0; v1240 = 0; v1241 = (u8 *)0; v1242 = 0; v1243 = 0; v1244 = (u8 *)0; v1245 = 0; v1246 = 0; v1247 = 0; v1248 = 0; v1249 = 0; v1250 = 0; v1251 = 0; v1252 = 0; v1253 = 0; v1254 = 0; goto v1213;
+v1104:;
+    u64 v1167 = v1166 * 40u;
+    memset(v1165 + v1167, 0, 24u);
+    at(ptr_1, v1165 + v1167 + 24) = (u8 *)text_keeps_layout;
+    at(u64_1, v1165 + v1167 + 32) = 12u;
+    at(u64, v46 + 152) = v1166 + 1;
     memcpy(v49 + 7, v46, 608u);
     memcpy(v48, v49 + 7, 608u);
     clap_builder_arg_Arg_conflicts_with(v47, v48);
-    u8 v1156 = at(u8, v47);
-    u8 *v1157 = at(ptr, v47 + 8);
-    u64 v1158 = at(u64, v47 + 16);
-    u64 v1159 = at(u64, v47 + 24);
-    u8 *v1160 = at(ptr, v47 + 32);
-    u64 v1161 = at(u64, v47 + 40);
+    u8 v1172 = at(u8, v47);
+    u8 *v1173 = at(ptr, v47 + 8);
+    u64 v1174 = at(u64, v47 + 16);
+    u64 v1175 = at(u64, v47 + 24);
+    u8 *v1176 = at(ptr, v47 + 32);
+    u64 v1177 = at(u64, v47 + 40);
     memcpy(v55, v47 + 48, 24u);
-    u32 v1162 = at(u32, v47 + 72);
-    u32 v1163 = at(u32, v47 + 76);
-    u64 v1164 = at(u64, v47 + 80);
-    u8 *v1165 = at(ptr, v47 + 88);
-    u64 v1166 = at(u64, v47 + 96);
-    u8 *v1167 = at(ptr, v47 + 104);
+    u32 v1178 = at(u32, v47 + 72);
+    u32 v1179 = at(u32, v47 + 76);
+    u64 v1180 = at(u64, v47 + 80);
+    u8 *v1181 = at(ptr, v47 + 88);
+    u64 v1182 = at(u64, v47 + 96);
+    u8 *v1183 = at(ptr, v47 + 104);
     memcpy(v56, v47 + 112, 16u);
-    u8 *v1168 = at(ptr, v47 + 128);
+    u8 *v1184 = at(ptr, v47 + 128);
     memcpy(v57, v47 + 136, 16u);
-    u8 *v1169 = at(ptr, v47 + 152);
+    u8 *v1185 = at(ptr, v47 + 152);
     memcpy(v58, v47 + 160, 16u);
-    u8 *v1170 = at(ptr, v47 + 176);
+    u8 *v1186 = at(ptr, v47 + 176);
     memcpy(v59, v47 + 184, 16u);
-    u8 *v1171 = at(ptr, v47 + 200);
+    u8 *v1187 = at(ptr, v47 + 200);
     memcpy(v60, v47 + 208, 16u);
-    u8 *v1172 = at(ptr, v47 + 224);
+    u8 *v1188 = at(ptr, v47 + 224);
     memcpy(v61, v47 + 232, 16u);
-    u8 *v1173 = at(ptr, v47 + 248);
+    u8 *v1189 = at(ptr, v47 + 248);
     memcpy(v62, v47 + 256, 16u);
-    u8 *v1174 = at(ptr, v47 + 272);
+    u8 *v1190 = at(ptr, v47 + 272);
     memcpy(v63, v47 + 280, 16u);
-    u8 *v1175 = at(ptr, v47 + 296);
+    u8 *v1191 = at(ptr, v47 + 296);
     memcpy(v64, v47 + 304, 16u);
-    u8 *v1176 = at(ptr, v47 + 320);
+    u8 *v1192 = at(ptr, v47 + 320);
     memcpy(v65, v47 + 328, 16u);
-    u64 v1177 = at(u64, v47 + 344);
-    u8 *v1178 = at(ptr, v47 + 352);
-    u64 v1179 = at(u64, v47 + 360);
-    u64 v1180 = at(u64, v47 + 368);
-    u8 *v1181 = at(ptr, v47 + 376);
-    u64 v1182 = at(u64, v47 + 384);
-    u8 *v1183 = at(ptr, v47 + 392);
+    u64 v1193 = at(u64, v47 + 344);
+    u8 *v1194 = at(ptr, v47 + 352);
+    u64 v1195 = at(u64, v47 + 360);
+    u64 v1196 = at(u64, v47 + 368);
+    u8 *v1197 = at(ptr, v47 + 376);
+    u64 v1198 = at(u64, v47 + 384);
+    u8 *v1199 = at(ptr, v47 + 392);
     memcpy(v66, v47 + 400, 16u);
-    u64 v1184 = at(u64, v47 + 416);
-    u8 *v1185 = at(ptr, v47 + 424);
-    u64 v1186 = at(u64, v47 + 432);
-    u64 v1187 = at(u64, v47 + 440);
-    u64 v1188 = at(u64, v47 + 448);
-    u64 v1189 = at(u64, v47 + 456);
+    u64 v1200 = at(u64, v47 + 416);
+    u8 *v1201 = at(ptr, v47 + 424);
+    u64 v1202 = at(u64, v47 + 432);
+    u64 v1203 = at(u64, v47 + 440);
+    u64 v1204 = at(u64, v47 + 448);
+    u64 v1205 = at(u64, v47 + 456);
     memcpy(v67, v47 + 464, 48u);
-    u8 v1190 = at(u8, v47 + 512);
-    u8 v1191 = at(u8, v47 + 513);
+    u8 v1206 = at(u8, v47 + 512);
+    u8 v1207 = at(u8, v47 + 513);
     memcpy(v68, v47 + 514, 86u);
-    u8 v1192 = at(u8, v47 + 600);
-    u8 v1193 = at(u8, v47 + 601);
-    u8 v1194 = at(u8, v47 + 602);
+    u8 v1208 = at(u8, v47 + 600);
+    u8 v1209 = at(u8, v47 + 601);
+    u8 v1210 = at(u8, v47 + 602);
     memcpy(v69, v47 + 603, 5);
-    v1198 = v1157; v1199 = v1158; v1200 = v1159; v1201 = v1160; v1202 = v1161; v1203 = v1167; v1204 = v1168; v1205 = v1169; v1206 = v1170; v1207 = v1171; v1208 = v1172; v1209 = v1173; v1210 = v1174; v1211 = v1175; v1212 = v1176; v1213 = v1177; v1214 = v1178; v1215 = v1179; v1216 = v1180; v1217 = v1181; v1218 = v1182; v1219 = v1183; v1220 = load56(v47 + 609); v1221 = v1156; v1222 = v1162; v1223 = v1163; v1224 = v1164; v1225 = v1165; v1226 = v1166; v1227 = v1184; v1228 = v1185; v1229 = v1186; v1230 = v1187; v1231 = v1188; v1232 = v1189; v1233 = v1190; v1234 = v1191; v1235 = v1192; v1236 = v1193; v1237 = v1194; v1238 = at(u8, v47 + 608);
-v1197:;
-    v1393 = v1198; v1394 = v1199; v1395 = v1200; v1396 = v1201; v1397 = v1202; v1398 = v1203; v1399 = v1204; v1400 = v1205; v1401 = v1206; v1402 = v1207; v1403 = v1208; v1404 = v1209; v1405 = v1210; v1406 = v1211; v1407 = v1212; v1408 = v1213; v1409 = v1214; v1410 = v1215; v1411 = v1216; v1412 = v1217; v1413 = v1218; v1414 = v1219; v1415 = v1220; v1416 = v1221; v1417 = v1222; v1418 = v1223; v1419 = v1224; v1420 = v1225; v1421 = v1226; v1422 = v1227; v1423 = v1228; v1424 = v1229; v1425 = v1230; v1426 = v1231; v1427 = v1232; v1428 = v1233; v1429 = v1234; v1430 = v1235; v1431 = v1236; v1432 = v1237; v1433 = v1238; goto v774;
+    v1214 = v1173; v1215 = v1174; v1216 = v1175; v1217 = v1176; v1218 = v1177; v1219 = v1183; v1220 = v1184; v1221 = v1185; v1222 = v1186; v1223 = v1187; v1224 = v1188; v1225 = v1189; v1226 = v1190; v1227 = v1191; v1228 = v1192; v1229 = v1193; v1230 = v1194; v1231 = v1195; v1232 = v1196; v1233 = v1197; v1234 = v1198; v1235 = v1199; v1236 = load56(v47 + 609); v1237 = v1172; v1238 = v1178; v1239 = v1179; v1240 = v1180; v1241 = v1181; v1242 = v1182; v1243 = v1200; v1244 = v1201; v1245 = v1202; v1246 = v1203; v1247 = v1204; v1248 = v1205; v1249 = v1206; v1250 = v1207; v1251 = v1208; v1252 = v1209; v1253 = v1210; v1254 = at(u8, v47 + 608);
+v1213:;
+    v1409 = v1214; v1410 = v1215; v1411 = v1216; v1412 = v1217; v1413 = v1218; v1414 = v1219; v1415 = v1220; v1416 = v1221; v1417 = v1222; v1418 = v1223; v1419 = v1224; v1420 = v1225; v1421 = v1226; v1422 = v1227; v1423 = v1228; v1424 = v1229; v1425 = v1230; v1426 = v1231; v1427 = v1232; v1428 = v1233; v1429 = v1234; v1430 = v1235; v1431 = v1236; v1432 = v1237; v1433 = v1238; v1434 = v1239; v1435 = v1240; v1436 = v1241; v1437 = v1242; v1438 = v1243; v1439 = v1244; v1440 = v1245; v1441 = v1246; v1442 = v1247; v1443 = v1248; v1444 = v1249; v1445 = v1250; v1446 = v1251; v1447 = v1252; v1448 = v1253; v1449 = v1254; goto v774;
 v769:;
     memset(v56, 0, 16u);
     memset(v58, 0, 16u);
@@ -4377,7 +4404,7 @@ v769:;
     memset(v64, 0, 16u);
     memset(v66, 0, 16u);
     memset(v68, 0, 86u);
-    v1393 = v734; v1394 = v736; v1395 = 1; v1396 = v746; v1397 = v748; v1398 = v6; v1399 = v6; v1400 = v6; v1401 = v6; v1402 = v6; v1403 = v6; v1404 = v6; v1405 = v6; v1406 = v6; v1407 = v6; v1408 = 1; v1409 = v6; v1410 = 0; v1411 = 1; v1412 = v6; v1413 = 0; v1414 = v6; v1415 = 0; v1416 = 0; v1417 = 1; v1418 = v756; v1419 = 1; v1420 = v734; v1421 = v736; v1422 = 0; v1423 = v753; v1424 = v754; v1425 = 0; v1426 = 0; v1427 = 0; v1428 = 0; v1429 = 0; v1430 = 0; v1431 = 0; v1432 = 0; v1433 = 0; goto v774;
+    v1409 = v734; v1410 = v736; v1411 = 1; v1412 = v746; v1413 = v748; v1414 = v6; v1415 = v6; v1416 = v6; v1417 = v6; v1418 = v6; v1419 = v6; v1420 = v6; v1421 = v6; v1422 = v6; v1423 = v6; v1424 = 1; v1425 = v6; v1426 = 0; v1427 = 1; v1428 = v6; v1429 = 0; v1430 = v6; v1431 = 0; v1432 = 0; v1433 = 1; v1434 = v756; v1435 = 1; v1436 = v734; v1437 = v736; v1438 = 0; v1439 = v753; v1440 = v754; v1441 = 0; v1442 = 0; v1443 = 0; v1444 = 0; v1445 = 0; v1446 = 0; v1447 = 0; v1448 = 0; v1449 = 0; goto v774;
 v770:;
     memset(v56, 0, 16u);
     memset(v58, 0, 16u);
@@ -4386,7 +4413,7 @@ v770:;
     memset(v64, 0, 16u);
     memset(v66, 0, 16u);
     memset(v68, 0, 86u);
-    v1393 = v734; v1394 = v736; v1395 = 1; v1396 = v746; v1397 = v748; v1398 = v6; v1399 = v6; v1400 = v6; v1401 = v6; v1402 = v6; v1403 = v6; v1404 = v6; v1405 = v6; v1406 = v6; v1407 = v6; v1408 = 1; v1409 = v6; v1410 = 0; v1411 = 1; v1412 = v6; v1413 = 0; v1414 = v6; v1415 = 0; v1416 = 0; v1417 = 0; v1418 = 0; v1419 = 1; v1420 = v734; v1421 = v736; v1422 = 1; v1423 = v6; v1424 = 0; v1425 = 0; v1426 = 0; v1427 = 0; v1428 = 1; v1429 = 4; v1430 = 0; v1431 = 0; v1432 = 1; v1433 = 0; goto v774;
+    v1409 = v734; v1410 = v736; v1411 = 1; v1412 = v746; v1413 = v748; v1414 = v6; v1415 = v6; v1416 = v6; v1417 = v6; v1418 = v6; v1419 = v6; v1420 = v6; v1421 = v6; v1422 = v6; v1423 = v6; v1424 = 1; v1425 = v6; v1426 = 0; v1427 = 1; v1428 = v6; v1429 = 0; v1430 = v6; v1431 = 0; v1432 = 0; v1433 = 0; v1434 = 0; v1435 = 1; v1436 = v734; v1437 = v736; v1438 = 1; v1439 = v6; v1440 = 0; v1441 = 0; v1442 = 0; v1443 = 0; v1444 = 1; v1445 = 4; v1446 = 0; v1447 = 0; v1448 = 1; v1449 = 0; goto v774;
 v771:;
     memset(v56, 0, 16u);
     memset(v58, 0, 16u);
@@ -4395,7 +4422,7 @@ v771:;
     memset(v64, 0, 16u);
     memset(v66, 0, 16u);
     memset(v68, 0, 86u);
-    v1393 = v734; v1394 = v736; v1395 = 1; v1396 = v746; v1397 = v748; v1398 = v6; v1399 = v6; v1400 = v6; v1401 = v6; v1402 = v6; v1403 = v6; v1404 = v6; v1405 = v6; v1406 = v6; v1407 = v6; v1408 = 1; v1409 = v6; v1410 = 0; v1411 = 1; v1412 = v6; v1413 = 0; v1414 = v6; v1415 = 0; v1416 = 0; v1417 = 0; v1418 = 0; v1419 = 1; v1420 = v734; v1421 = v736; v1422 = 1; v1423 = v6; v1424 = 0; v1425 = 1; v1426 = 0; v1427 = 1; v1428 = 1; v1429 = 1; v1430 = 0; v1431 = 0; v1432 = 1; v1433 = 0; goto v774;
+    v1409 = v734; v1410 = v736; v1411 = 1; v1412 = v746; v1413 = v748; v1414 = v6; v1415 = v6; v1416 = v6; v1417 = v6; v1418 = v6; v1419 = v6; v1420 = v6; v1421 = v6; v1422 = v6; v1423 = v6; v1424 = 1; v1425 = v6; v1426 = 0; v1427 = 1; v1428 = v6; v1429 = 0; v1430 = v6; v1431 = 0; v1432 = 0; v1433 = 0; v1434 = 0; v1435 = 1; v1436 = v734; v1437 = v736; v1438 = 1; v1439 = v6; v1440 = 0; v1441 = 1; v1442 = 0; v1443 = 1; v1444 = 1; v1445 = 1; v1446 = 0; v1447 = 0; v1448 = 1; v1449 = 0; goto v774;
 v772:;
     memset(v56, 0, 16u);
     memset(v58, 0, 16u);
@@ -4404,7 +4431,7 @@ v772:;
     memset(v64, 0, 16u);
     memset(v66, 0, 16u);
     memset(v68, 0, 86u);
-    v1393 = v734; v1394 = v736; v1395 = 1; v1396 = v746; v1397 = v748; v1398 = v6; v1399 = v6; v1400 = v6; v1401 = v6; v1402 = v6; v1403 = v6; v1404 = v6; v1405 = v6; v1406 = v6; v1407 = v6; v1408 = 1; v1409 = v6; v1410 = 0; v1411 = 1; v1412 = v6; v1413 = 0; v1414 = v6; v1415 = 0; v1416 = 0; v1417 = 0; v1418 = 0; v1419 = 1; v1420 = v734; v1421 = v736; v1422 = 1; v1423 = v6; v1424 = 0; v1425 = 0; v1426 = 0; v1427 = 0; v1428 = 1; v1429 = 1; v1430 = 0; v1431 = 0; v1432 = 1; v1433 = 0; goto v774;
+    v1409 = v734; v1410 = v736; v1411 = 1; v1412 = v746; v1413 = v748; v1414 = v6; v1415 = v6; v1416 = v6; v1417 = v6; v1418 = v6; v1419 = v6; v1420 = v6; v1421 = v6; v1422 = v6; v1423 = v6; v1424 = 1; v1425 = v6; v1426 = 0; v1427 = 1; v1428 = v6; v1429 = 0; v1430 = v6; v1431 = 0; v1432 = 0; v1433 = 0; v1434 = 0; v1435 = 1; v1436 = v734; v1437 = v736; v1438 = 1; v1439 = v6; v1440 = 0; v1441 = 0; v1442 = 0; v1443 = 0; v1444 = 1; v1445 = 1; v1446 = 0; v1447 = 0; v1448 = 1; v1449 = 0; goto v774;
 v773:;
     memset(v31, 0, 24u);
     memset(v32, 0, 16u);
@@ -4466,44 +4493,44 @@ v773:;
     at(ptr, v30 + 416) = (u8 *)text_OUT;
     at(u64, v30 + 424) = 3;
     at(u8, v30 + 592) = 1;
-    u64 v1240 = at(u64, v30 + 104);
-    if (!(at(u64, v30 + 112) == v1240)) { v1249 = v6; v1250 = v1240; goto v1243; }
-    if (!std_alloc_vec_Vec_grow_amortized_2739(v30 + 96)) goto v1246;
-    v1249 = at(ptr, v30 + 96); v1250 = at(u64, v30 + 104); goto v1243;
-v1246:;
-    if (at(u64, v30 + 112) == 0) goto v1299;
+    u64 v1256 = at(u64, v30 + 104);
+    if (!(at(u64, v30 + 112) == v1256)) { v1265 = v6; v1266 = v1256; goto v1259; }
+    if (!std_alloc_vec_Vec_grow_amortized_2739(v30 + 96)) goto v1262;
+    v1265 = at(ptr, v30 + 96); v1266 = at(u64, v30 + 104); goto v1259;
+v1262:;
+    if (at(u64, v30 + 112) == 0) goto v1315;
     sys_rattle_dealloc(at(ptr, v30 + 96));
-v1299:;
-    if (at(u64, v30 + 136) == 0) goto v1304;
+v1315:;
+    if (at(u64, v30 + 136) == 0) goto v1320;
     sys_rattle_dealloc(at(ptr, v30 + 120));
-v1304:;
-    if (at(u64, v30 + 160) == 0) goto v1309;
+v1320:;
+    if (at(u64, v30 + 160) == 0) goto v1325;
     sys_rattle_dealloc(at(ptr, v30 + 144));
-v1309:;
-    if (at(u64, v30 + 184) == 0) goto v1314;
+v1325:;
+    if (at(u64, v30 + 184) == 0) goto v1330;
     sys_rattle_dealloc(at(ptr, v30 + 168));
-v1314:;
-    if (at(u64, v30 + 208) == 0) goto v1319;
+v1330:;
+    if (at(u64, v30 + 208) == 0) goto v1335;
     sys_rattle_dealloc(at(ptr, v30 + 192));
-v1319:;
-    if (at(u64, v30 + 232) == 0) goto v1324;
+v1335:;
+    if (at(u64, v30 + 232) == 0) goto v1340;
     sys_rattle_dealloc(at(ptr, v30 + 216));
-v1324:;
-    if (at(u64, v30 + 256) == 0) goto v1329;
+v1340:;
+    if (at(u64, v30 + 256) == 0) goto v1345;
     sys_rattle_dealloc(at(ptr, v30 + 240));
-v1329:;
-    if (at(u64, v30 + 280) == 0) goto v1334;
+v1345:;
+    if (at(u64, v30 + 280) == 0) goto v1350;
     sys_rattle_dealloc(at(ptr, v30 + 264));
-v1334:;
-    if (at(u64, v30 + 304) == 0) goto v1339;
+v1350:;
+    if (at(u64, v30 + 304) == 0) goto v1355;
     sys_rattle_dealloc(at(ptr, v30 + 288));
-v1339:;
-    if (at(u64, v30 + 328) == 0) goto v1344;
+v1355:;
+    if (at(u64, v30 + 328) == 0) goto v1360;
     sys_rattle_dealloc(at(ptr, v30 + 312));
-v1344:;
-    if (at(u64, v30 + 400) == 0) goto v1349;
+v1360:;
+    if (at(u64, v30 + 400) == 0) goto v1365;
     sys_rattle_dealloc(at(ptr, v30 + 384));
-v1349:;
+v1365:;
     memset(v31, 0, 24u);
     memset(v32, 0, 16u);
     memset(v33, 0, 16u);
@@ -4519,68 +4546,68 @@ v1349:;
     memset(v43, 0, 48u);
     memset(v44, 0, 86u);
     memset(v45, 0, 5);
-    v1352 = (u8 *)0; v1353 = 0; v1354 = 0; v1355 = (u8 *)0; v1356 = 0; v1357 = (u8 *)0; v1358 = (u8 *)0; v1359 = (u8 *)0; v1360 = (u8 *)0; v1361 = (u8 *)0; v1362 = (u8 *)0; v1363 = (u8 *)0; v1364 = (u8 *)0; v1365 = (u8 *)0; v1366 = (u8 *)0; v1367 = 0; v1368 = (u8 *)0; v1369 = 0; v1370 = 0; v1371 = (u8 *)0; v1372 = 0; v1373 = (u8 *)0; v1374 = 0; v1375 = 0; v1376 = 0; v1377 = 0; v1378 = 0; v1379 = 0; v1380 = 0; v1381 = 0; v1382 = 0; v1383 = 0; v1384 = 0; v1385 = (u8 *)0; v1386 = 0; v1387 = 0; v1388 = (u8 *)0; v1389 = 0; v1390 = 0; v1391 = 0; v1392 = 1; goto v1296;
-v1243:;
-    u64 v1251 = v1250 * 24u;
-    at(ptr_1, v1249 + v1251) = (u8 *)text_output_46aa9fc3;
-    at(u64_1, v1249 + v1251 + 8) = 6;
-    at(u64_1, v1249 + v1251 + 16) = 0;
-    at(u64, v30 + 104) = v1250 + 1;
-    u8 *v1256 = at(ptr, v30);
-    u64 v1257 = at(u64, v30 + 8);
-    u64 v1258 = at(u64, v30 + 16);
-    u8 *v1259 = at(ptr, v30 + 24);
-    u64 v1260 = at(u64, v30 + 32);
+    v1368 = (u8 *)0; v1369 = 0; v1370 = 0; v1371 = (u8 *)0; v1372 = 0; v1373 = (u8 *)0; v1374 = (u8 *)0; v1375 = (u8 *)0; v1376 = (u8 *)0; v1377 = (u8 *)0; v1378 = (u8 *)0; v1379 = (u8 *)0; v1380 = (u8 *)0; v1381 = (u8 *)0; v1382 = (u8 *)0; v1383 = 0; v1384 = (u8 *)0; v1385 = 0; v1386 = 0; v1387 = (u8 *)0; v1388 = 0; v1389 = (u8 *)0; v1390 = 0; v1391 = 0; v1392 = 0; v1393 = 0; v1394 = 0; v1395 = 0; v1396 = 0; v1397 = 0; v1398 = 0; v1399 = 0; v1400 = 0; v1401 = (u8 *)0; v1402 = 0; v1403 = 0; v1404 = (u8 *)0; v1405 = 0; v1406 = 0; v1407 = 0; v1408 = 1; goto v1312;
+v1259:;
+    u64 v1267 = v1266 * 24u;
+    at(ptr_1, v1265 + v1267) = (u8 *)text_output_46aa9fc3;
+    at(u64_1, v1265 + v1267 + 8) = 6;
+    at(u64_1, v1265 + v1267 + 16) = 0;
+    at(u64, v30 + 104) = v1266 + 1;
+    u8 *v1272 = at(ptr, v30);
+    u64 v1273 = at(u64, v30 + 8);
+    u64 v1274 = at(u64, v30 + 16);
+    u8 *v1275 = at(ptr, v30 + 24);
+    u64 v1276 = at(u64, v30 + 32);
     memcpy(v31, v30 + 40, 24u);
-    u32 v1261 = at(u32, v30 + 64);
-    u32 v1262 = at(u32, v30 + 68);
-    u64 v1263 = at(u64, v30 + 72);
-    u8 *v1264 = at(ptr, v30 + 80);
-    u64 v1265 = at(u64, v30 + 88);
-    u8 *v1266 = at(ptr, v30 + 96);
+    u32 v1277 = at(u32, v30 + 64);
+    u32 v1278 = at(u32, v30 + 68);
+    u64 v1279 = at(u64, v30 + 72);
+    u8 *v1280 = at(ptr, v30 + 80);
+    u64 v1281 = at(u64, v30 + 88);
+    u8 *v1282 = at(ptr, v30 + 96);
     memcpy(v32, v30 + 104, 16u);
-    u8 *v1267 = at(ptr, v30 + 120);
+    u8 *v1283 = at(ptr, v30 + 120);
     memcpy(v33, v30 + 128, 16u);
-    u8 *v1268 = at(ptr, v30 + 144);
+    u8 *v1284 = at(ptr, v30 + 144);
     memcpy(v34, v30 + 152, 16u);
-    u8 *v1269 = at(ptr, v30 + 168);
+    u8 *v1285 = at(ptr, v30 + 168);
     memcpy(v35, v30 + 176, 16u);
-    u8 *v1270 = at(ptr, v30 + 192);
+    u8 *v1286 = at(ptr, v30 + 192);
     memcpy(v36, v30 + 200, 16u);
-    u8 *v1271 = at(ptr, v30 + 216);
+    u8 *v1287 = at(ptr, v30 + 216);
     memcpy(v37, v30 + 224, 16u);
-    u8 *v1272 = at(ptr, v30 + 240);
+    u8 *v1288 = at(ptr, v30 + 240);
     memcpy(v38, v30 + 248, 16u);
-    u8 *v1273 = at(ptr, v30 + 264);
+    u8 *v1289 = at(ptr, v30 + 264);
     memcpy(v39, v30 + 272, 16u);
-    u8 *v1274 = at(ptr, v30 + 288);
+    u8 *v1290 = at(ptr, v30 + 288);
     memcpy(v40, v30 + 296, 16u);
-    u8 *v1275 = at(ptr, v30 + 312);
+    u8 *v1291 = at(ptr, v30 + 312);
     memcpy(v41, v30 + 320, 16u);
-    u64 v1276 = at(u64, v30 + 336);
-    u8 *v1277 = at(ptr, v30 + 344);
-    u64 v1278 = at(u64, v30 + 352);
-    u64 v1279 = at(u64, v30 + 360);
-    u8 *v1280 = at(ptr, v30 + 368);
-    u64 v1281 = at(u64, v30 + 376);
-    u8 *v1282 = at(ptr, v30 + 384);
+    u64 v1292 = at(u64, v30 + 336);
+    u8 *v1293 = at(ptr, v30 + 344);
+    u64 v1294 = at(u64, v30 + 352);
+    u64 v1295 = at(u64, v30 + 360);
+    u8 *v1296 = at(ptr, v30 + 368);
+    u64 v1297 = at(u64, v30 + 376);
+    u8 *v1298 = at(ptr, v30 + 384);
     memcpy(v42, v30 + 392, 16u);
-    u64 v1283 = at(u64, v30 + 408);
-    u8 *v1284 = at(ptr, v30 + 416);
-    u64 v1285 = at(u64, v30 + 424);
-    u64 v1286 = at(u64, v30 + 432);
-    u64 v1287 = at(u64, v30 + 440);
-    u64 v1288 = at(u64, v30 + 448);
+    u64 v1299 = at(u64, v30 + 408);
+    u8 *v1300 = at(ptr, v30 + 416);
+    u64 v1301 = at(u64, v30 + 424);
+    u64 v1302 = at(u64, v30 + 432);
+    u64 v1303 = at(u64, v30 + 440);
+    u64 v1304 = at(u64, v30 + 448);
     memcpy(v43, v30 + 456, 48u);
-    u8 v1289 = at(u8, v30 + 504);
-    u8 v1290 = at(u8, v30 + 505);
+    u8 v1305 = at(u8, v30 + 504);
+    u8 v1306 = at(u8, v30 + 505);
     memcpy(v44, v30 + 506, 86u);
-    u8 v1291 = at(u8, v30 + 592);
-    u8 v1292 = at(u8, v30 + 593);
-    u8 v1293 = at(u8, v30 + 594);
+    u8 v1307 = at(u8, v30 + 592);
+    u8 v1308 = at(u8, v30 + 593);
+    u8 v1309 = at(u8, v30 + 594);
     memcpy(v45, v30 + 595, 5);
-    v1352 = v1256; v1353 = v1257; v1354 = v1258; v1355 = v1259; v1356 = v1260; v1357 = v1266; v1358 = v1267; v1359 = v1268; v1360 = v1269; v1361 = v1270; v1362 = v1271; v1363 = v1272; v1364 = v1273; v1365 = v1274; v1366 = v1275; v1367 = v1276; v1368 = v1277; v1369 = v1278; v1370 = v1279; v1371 = v1280; v1372 = v1281; v1373 = v1282; v1374 = load56(v30 + 601); v1375 = at(u8, v30 + 600); v1376 = v1293; v1377 = v1292; v1378 = v1291; v1379 = v1290; v1380 = v1289; v1381 = v1288; v1382 = v1287; v1383 = v1286; v1384 = v1285; v1385 = v1284; v1386 = v1283; v1387 = v1265; v1388 = v1264; v1389 = v1263; v1390 = v1262; v1391 = v1261; v1392 = 0;
-v1296:;
+    v1368 = v1272; v1369 = v1273; v1370 = v1274; v1371 = v1275; v1372 = v1276; v1373 = v1282; v1374 = v1283; v1375 = v1284; v1376 = v1285; v1377 = v1286; v1378 = v1287; v1379 = v1288; v1380 = v1289; v1381 = v1290; v1382 = v1291; v1383 = v1292; v1384 = v1293; v1385 = v1294; v1386 = v1295; v1387 = v1296; v1388 = v1297; v1389 = v1298; v1390 = load56(v30 + 601); v1391 = at(u8, v30 + 600); v1392 = v1309; v1393 = v1308; v1394 = v1307; v1395 = v1306; v1396 = v1305; v1397 = v1304; v1398 = v1303; v1399 = v1302; v1400 = v1301; v1401 = v1300; v1402 = v1299; v1403 = v1281; v1404 = v1280; v1405 = v1279; v1406 = v1278; v1407 = v1277; v1408 = 0;
+v1312:;
     memcpy(v55, v31, 24u);
     memcpy(v56, v32, 16u);
     memcpy(v57, v33, 16u);
@@ -4596,7 +4623,7 @@ v1296:;
     memcpy(v67, v43, 48u);
     memcpy(v68, v44, 86u);
     memcpy(v69, v45, 5);
-    v1393 = v1352; v1394 = v1353; v1395 = v1354; v1396 = v1355; v1397 = v1356; v1398 = v1357; v1399 = v1358; v1400 = v1359; v1401 = v1360; v1402 = v1361; v1403 = v1362; v1404 = v1363; v1405 = v1364; v1406 = v1365; v1407 = v1366; v1408 = v1367; v1409 = v1368; v1410 = v1369; v1411 = v1370; v1412 = v1371; v1413 = v1372; v1414 = v1373; v1415 = v1374; v1416 = v1392; v1417 = v1391; v1418 = v1390; v1419 = v1389; v1420 = v1388; v1421 = v1387; v1422 = v1386; v1423 = v1385; v1424 = v1384; v1425 = v1383; v1426 = v1382; v1427 = v1381; v1428 = v1380; v1429 = v1379; v1430 = v1378; v1431 = v1377; v1432 = v1376; v1433 = v1375;
+    v1409 = v1368; v1410 = v1369; v1411 = v1370; v1412 = v1371; v1413 = v1372; v1414 = v1373; v1415 = v1374; v1416 = v1375; v1417 = v1376; v1418 = v1377; v1419 = v1378; v1420 = v1379; v1421 = v1380; v1422 = v1381; v1423 = v1382; v1424 = v1383; v1425 = v1384; v1426 = v1385; v1427 = v1386; v1428 = v1387; v1429 = v1388; v1430 = v1389; v1431 = v1390; v1432 = v1408; v1433 = v1407; v1434 = v1406; v1435 = v1405; v1436 = v1404; v1437 = v1403; v1438 = v1402; v1439 = v1401; v1440 = v1400; v1441 = v1399; v1442 = v1398; v1443 = v1397; v1444 = v1396; v1445 = v1395; v1446 = v1394; v1447 = v1393; v1448 = v1392; v1449 = v1391;
 v774:;
     memcpy(v166, v55, 24u);
     memcpy(v167, v56, 16u);
@@ -4628,8 +4655,8 @@ v774:;
     memset(v27, 0, 48u);
     memset(v28, 0, 86u);
     memset(v29, 0, 5);
-    flag v1434 = v1416 == 0;
-    if (!v1434) { v1437 = (u8 *)0; v1438 = 0; v1439 = 0; v1440 = (u8 *)0; v1441 = 0; v1442 = 0; v1443 = 0; v1444 = 0; v1445 = (u8 *)0; v1446 = 0; v1447 = (u8 *)0; v1448 = (u8 *)0; v1449 = (u8 *)0; v1450 = (u8 *)0; v1451 = (u8 *)0; v1452 = (u8 *)0; v1453 = (u8 *)0; v1454 = (u8 *)0; v1455 = (u8 *)0; v1456 = (u8 *)0; v1457 = 0; v1458 = (u8 *)0; v1459 = 0; v1460 = 0; v1461 = (u8 *)0; v1462 = 0; v1463 = (u8 *)0; v1464 = 0; v1465 = (u8 *)0; v1466 = 0; v1467 = 0; v1468 = 0; v1469 = 0; v1470 = 0; v1471 = 0; v1472 = 0; v1473 = 0; v1474 = 0; v1475 = 0; v1476 = 0; goto v1436; }
+    flag v1450 = v1432 == 0;
+    if (!v1450) { v1453 = (u8 *)0; v1454 = 0; v1455 = 0; v1456 = (u8 *)0; v1457 = 0; v1458 = 0; v1459 = 0; v1460 = 0; v1461 = (u8 *)0; v1462 = 0; v1463 = (u8 *)0; v1464 = (u8 *)0; v1465 = (u8 *)0; v1466 = (u8 *)0; v1467 = (u8 *)0; v1468 = (u8 *)0; v1469 = (u8 *)0; v1470 = (u8 *)0; v1471 = (u8 *)0; v1472 = (u8 *)0; v1473 = 0; v1474 = (u8 *)0; v1475 = 0; v1476 = 0; v1477 = (u8 *)0; v1478 = 0; v1479 = (u8 *)0; v1480 = 0; v1481 = (u8 *)0; v1482 = 0; v1483 = 0; v1484 = 0; v1485 = 0; v1486 = 0; v1487 = 0; v1488 = 0; v1489 = 0; v1490 = 0; v1491 = 0; v1492 = 0; goto v1452; }
     memcpy(v15, v166, 24u);
     memcpy(v16, v167, 16u);
     memcpy(v17, v168, 16u);
@@ -4645,8 +4672,8 @@ v774:;
     memcpy(v27, v178, 48u);
     memcpy(v28, v179, 86u);
     memcpy(v29, v180, 5);
-    v1437 = v1393; v1438 = v1394; v1439 = v1395; v1440 = v1396; v1441 = v1397; v1442 = v1417; v1443 = v1418; v1444 = v1419; v1445 = v1420; v1446 = v1421; v1447 = v1398; v1448 = v1399; v1449 = v1400; v1450 = v1401; v1451 = v1402; v1452 = v1403; v1453 = v1404; v1454 = v1405; v1455 = v1406; v1456 = v1407; v1457 = v1408; v1458 = v1409; v1459 = v1410; v1460 = v1411; v1461 = v1412; v1462 = v1413; v1463 = v1414; v1464 = v1422; v1465 = v1423; v1466 = v1424; v1467 = v1425; v1468 = v1426; v1469 = v1427; v1470 = v1428; v1471 = v1429; v1472 = v1430; v1473 = v1431; v1474 = v1432; v1475 = v1433; v1476 = v1415;
-v1436:;
+    v1453 = v1409; v1454 = v1410; v1455 = v1411; v1456 = v1412; v1457 = v1413; v1458 = v1433; v1459 = v1434; v1460 = v1435; v1461 = v1436; v1462 = v1437; v1463 = v1414; v1464 = v1415; v1465 = v1416; v1466 = v1417; v1467 = v1418; v1468 = v1419; v1469 = v1420; v1470 = v1421; v1471 = v1422; v1472 = v1423; v1473 = v1424; v1474 = v1425; v1475 = v1426; v1476 = v1427; v1477 = v1428; v1478 = v1429; v1479 = v1430; v1480 = v1438; v1481 = v1439; v1482 = v1440; v1483 = v1441; v1484 = v1442; v1485 = v1443; v1486 = v1444; v1487 = v1445; v1488 = v1446; v1489 = v1447; v1490 = v1448; v1491 = v1449; v1492 = v1431;
+v1452:;
     memcpy(v151, v15, 24u);
     memcpy(v152, v16, 16u);
     memcpy(v153, v17, 16u);
@@ -4662,7 +4689,7 @@ v1436:;
     memcpy(v163, v27, 48u);
     memcpy(v164, v28, 86u);
     memcpy(v165, v29, 5);
-    if (!v1434) goto v1478;
+    if (!v1450) goto v1494;
     memcpy(v189, v144, 48u);
     at(u8, v189 + 48) = v682;
     memcpy(v189 + 49, v145, 7);
@@ -4697,63 +4724,63 @@ v1436:;
     at(u64, v189 + 632) = v686;
     at(u64, v189 + 640) = v684;
     memcpy(v189 + 648, v150, 24u);
-    at(ptr, v190) = v1437;
-    at(u64, v190 + 8) = v1438;
-    at(u64, v190 + 16) = v1439;
-    at(ptr, v190 + 24) = v1440;
-    at(u64, v190 + 32) = v1441;
+    at(ptr, v190) = v1453;
+    at(u64, v190 + 8) = v1454;
+    at(u64, v190 + 16) = v1455;
+    at(ptr, v190 + 24) = v1456;
+    at(u64, v190 + 32) = v1457;
     memcpy(v190 + 40, v151, 24u);
-    at(u32, v190 + 64) = v1442;
-    at(u32, v190 + 68) = v1443;
-    at(u64, v190 + 72) = v1444;
-    at(ptr, v190 + 80) = v1445;
-    at(u64, v190 + 88) = v1446;
-    at(ptr, v190 + 96) = v1447;
+    at(u32, v190 + 64) = v1458;
+    at(u32, v190 + 68) = v1459;
+    at(u64, v190 + 72) = v1460;
+    at(ptr, v190 + 80) = v1461;
+    at(u64, v190 + 88) = v1462;
+    at(ptr, v190 + 96) = v1463;
     memcpy(v190 + 104, v152, 16u);
-    at(ptr, v190 + 120) = v1448;
+    at(ptr, v190 + 120) = v1464;
     memcpy(v190 + 128, v153, 16u);
-    at(ptr, v190 + 144) = v1449;
+    at(ptr, v190 + 144) = v1465;
     memcpy(v190 + 152, v154, 16u);
-    at(ptr, v190 + 168) = v1450;
+    at(ptr, v190 + 168) = v1466;
     memcpy(v190 + 176, v155, 16u);
-    at(ptr, v190 + 192) = v1451;
+    at(ptr, v190 + 192) = v1467;
     memcpy(v190 + 200, v156, 16u);
-    at(ptr, v190 + 216) = v1452;
+    at(ptr, v190 + 216) = v1468;
     memcpy(v190 + 224, v157, 16u);
-    at(ptr, v190 + 240) = v1453;
+    at(ptr, v190 + 240) = v1469;
     memcpy(v190 + 248, v158, 16u);
-    at(ptr, v190 + 264) = v1454;
+    at(ptr, v190 + 264) = v1470;
     memcpy(v190 + 272, v159, 16u);
-    at(ptr, v190 + 288) = v1455;
+    at(ptr, v190 + 288) = v1471;
     memcpy(v190 + 296, v160, 16u);
-    at(ptr, v190 + 312) = v1456;
+    at(ptr, v190 + 312) = v1472;
     memcpy(v190 + 320, v161, 16u);
-    at(u64, v190 + 336) = v1457;
-    at(ptr, v190 + 344) = v1458;
-    at(u64, v190 + 352) = v1459;
-    at(u64, v190 + 360) = v1460;
-    at(ptr, v190 + 368) = v1461;
-    at(u64, v190 + 376) = v1462;
-    at(ptr, v190 + 384) = v1463;
+    at(u64, v190 + 336) = v1473;
+    at(ptr, v190 + 344) = v1474;
+    at(u64, v190 + 352) = v1475;
+    at(u64, v190 + 360) = v1476;
+    at(ptr, v190 + 368) = v1477;
+    at(u64, v190 + 376) = v1478;
+    at(ptr, v190 + 384) = v1479;
     memcpy(v190 + 392, v162, 16u);
-    at(u64, v190 + 408) = v1464;
-    at(ptr, v190 + 416) = v1465;
-    at(u64, v190 + 424) = v1466;
-    at(u64, v190 + 432) = v1467;
-    at(u64, v190 + 440) = v1468;
-    at(u64, v190 + 448) = v1469;
+    at(u64, v190 + 408) = v1480;
+    at(ptr, v190 + 416) = v1481;
+    at(u64, v190 + 424) = v1482;
+    at(u64, v190 + 432) = v1483;
+    at(u64, v190 + 440) = v1484;
+    at(u64, v190 + 448) = v1485;
     memcpy(v190 + 456, v163, 48u);
-    at(u8, v190 + 504) = v1470;
-    at(u8, v190 + 505) = v1471;
+    at(u8, v190 + 504) = v1486;
+    at(u8, v190 + 505) = v1487;
     memcpy(v190 + 506, v164, 86u);
-    at(u8, v190 + 592) = v1472;
-    at(u8, v190 + 593) = v1473;
-    at(u8, v190 + 594) = v1474;
+    at(u8, v190 + 592) = v1488;
+    at(u8, v190 + 593) = v1489;
+    at(u8, v190 + 594) = v1490;
     memcpy(v190 + 595, v165, 5);
-    at(u8, v190 + 600) = v1475;
-    store56(v190 + 601, v1476);
+    at(u8, v190 + 600) = v1491;
+    store56(v190 + 601, v1492);
     clap_builder_command_Command_arg(v188, v189, v190);
-    u8 v1479 = at(u8, v188);
+    u8 v1495 = at(u8, v188);
     memset(v8, 0, 55u);
     memset(v9, 0, 7);
     memset(v10, 0, 7);
@@ -4761,44 +4788,44 @@ v1436:;
     memset(v12, 0, 216u);
     memset(v13, 0, 168u);
     memset(v14, 0, 24u);
-    flag v1480 = v1479 == 0;
-    if (!v1480) { v685 = 0; v687 = 0; v689 = (u8 *)0; v691 = 0; v693 = 0; v695 = (u8 *)0; v697 = 0; v699 = 0; v701 = (u8 *)0; v703 = 0; v705 = 0; v707 = (u8 *)0; v709 = 0; v711 = 0; v713 = (u8 *)0; v715 = 0; v717 = 0; v719 = (u8 *)0; v679 = 0; v721 = 0; v723 = 0; v725 = (u8 *)0; v681 = 0; v727 = 0; v729 = 0; v731 = (u8 *)0; v683 = 0; goto v1482; }
+    flag v1496 = v1495 == 0;
+    if (!v1496) { v685 = 0; v687 = 0; v689 = (u8 *)0; v691 = 0; v693 = 0; v695 = (u8 *)0; v697 = 0; v699 = 0; v701 = (u8 *)0; v703 = 0; v705 = 0; v707 = (u8 *)0; v709 = 0; v711 = 0; v713 = (u8 *)0; v715 = 0; v717 = 0; v719 = (u8 *)0; v679 = 0; v721 = 0; v723 = 0; v725 = (u8 *)0; v681 = 0; v727 = 0; v729 = 0; v731 = (u8 *)0; v683 = 0; goto v1498; }
     memcpy(v8 + 7, v188 + 8, 48u);
-    u8 v1483 = at(u8, v188 + 56);
+    u8 v1499 = at(u8, v188 + 56);
     memcpy(v9, v188 + 57, 7);
-    u8 *v1484 = at(ptr, v188 + 64);
-    u64 v1485 = at(u64, v188 + 72);
-    u64 v1486 = at(u64, v188 + 80);
-    u8 v1487 = at(u8, v188 + 88);
+    u8 *v1500 = at(ptr, v188 + 64);
+    u64 v1501 = at(u64, v188 + 72);
+    u64 v1502 = at(u64, v188 + 80);
+    u8 v1503 = at(u8, v188 + 88);
     memcpy(v10, v188 + 89, 7);
-    u8 *v1488 = at(ptr, v188 + 96);
-    u64 v1489 = at(u64, v188 + 104);
-    u64 v1490 = at(u64, v188 + 112);
-    u8 v1491 = at(u8, v188 + 120);
+    u8 *v1504 = at(ptr, v188 + 96);
+    u64 v1505 = at(u64, v188 + 104);
+    u64 v1506 = at(u64, v188 + 112);
+    u8 v1507 = at(u8, v188 + 120);
     memcpy(v11, v188 + 121, 7);
-    u8 *v1492 = at(ptr, v188 + 128);
-    u64 v1493 = at(u64, v188 + 136);
-    u64 v1494 = at(u64, v188 + 144);
+    u8 *v1508 = at(ptr, v188 + 128);
+    u64 v1509 = at(u64, v188 + 136);
+    u64 v1510 = at(u64, v188 + 144);
     memcpy(v12, v188 + 152, 216u);
-    u8 *v1495 = at(ptr, v188 + 368);
-    u64 v1496 = at(u64, v188 + 376);
-    u64 v1497 = at(u64, v188 + 384);
-    u8 *v1498 = at(ptr, v188 + 392);
-    u64 v1499 = at(u64, v188 + 400);
-    u64 v1500 = at(u64, v188 + 408);
-    u8 *v1501 = at(ptr, v188 + 416);
-    u64 v1502 = at(u64, v188 + 424);
-    u64 v1503 = at(u64, v188 + 432);
+    u8 *v1511 = at(ptr, v188 + 368);
+    u64 v1512 = at(u64, v188 + 376);
+    u64 v1513 = at(u64, v188 + 384);
+    u8 *v1514 = at(ptr, v188 + 392);
+    u64 v1515 = at(u64, v188 + 400);
+    u64 v1516 = at(u64, v188 + 408);
+    u8 *v1517 = at(ptr, v188 + 416);
+    u64 v1518 = at(u64, v188 + 424);
+    u64 v1519 = at(u64, v188 + 432);
     memcpy(v13, v188 + 440, 168u);
-    u8 *v1504 = at(ptr, v188 + 608);
-    u64 v1505 = at(u64, v188 + 616);
-    u64 v1506 = at(u64, v188 + 624);
-    u8 *v1507 = at(ptr, v188 + 632);
-    u64 v1508 = at(u64, v188 + 640);
-    u64 v1509 = at(u64, v188 + 648);
+    u8 *v1520 = at(ptr, v188 + 608);
+    u64 v1521 = at(u64, v188 + 616);
+    u64 v1522 = at(u64, v188 + 624);
+    u8 *v1523 = at(ptr, v188 + 632);
+    u64 v1524 = at(u64, v188 + 640);
+    u64 v1525 = at(u64, v188 + 648);
     memcpy(v14, v188 + 656, 24u);
-    v685 = v1509; v687 = v1508; v689 = v1507; v691 = v1506; v693 = v1505; v695 = v1504; v697 = v1503; v699 = v1502; v701 = v1501; v703 = v1500; v705 = v1499; v707 = v1498; v709 = v1497; v711 = v1496; v713 = v1495; v715 = v1494; v717 = v1493; v719 = v1492; v679 = v1491; v721 = v1490; v723 = v1489; v725 = v1488; v681 = v1487; v727 = v1486; v729 = v1485; v731 = v1484; v683 = v1483;
-v1482:;
+    v685 = v1525; v687 = v1524; v689 = v1523; v691 = v1522; v693 = v1521; v695 = v1520; v697 = v1519; v699 = v1518; v701 = v1517; v703 = v1516; v705 = v1515; v707 = v1514; v709 = v1513; v711 = v1512; v713 = v1511; v715 = v1510; v717 = v1509; v719 = v1508; v679 = v1507; v721 = v1506; v723 = v1505; v725 = v1504; v681 = v1503; v727 = v1502; v729 = v1501; v731 = v1500; v683 = v1499;
+v1498:;
     memcpy(v181 + 7, v8 + 7, 48u);
     memcpy(v182, v9, 7);
     memcpy(v183, v10, 7);
@@ -4806,7 +4833,7 @@ v1482:;
     memcpy(v185, v12, 216u);
     memcpy(v186, v13, 168u);
     memcpy(v187, v14, 24u);
-    if (!v1480) goto v1510;
+    if (!v1496) goto v1526;
     memcpy(v144, v181 + 7, 48u);
     memcpy(v145, v182, 7);
     memcpy(v146, v183, 7);
@@ -4815,49 +4842,49 @@ v1482:;
     memcpy(v149, v186, 168u);
     memcpy(v150, v187, 24u);
     u64 v676 = v675 + 1;
-    if (v676 == v3) { v1597 = v731; v1598 = v729; v1599 = v727; v1600 = v725; v1601 = v723; v1602 = v721; v1603 = v719; v1604 = v717; v1605 = v715; v1606 = v713; v1607 = v711; v1608 = v709; v1609 = v707; v1610 = v705; v1611 = v703; v1612 = v701; v1613 = v699; v1614 = v697; v1615 = v695; v1616 = v693; v1617 = v691; v1618 = v689; v1619 = v687; v1620 = v685; v1621 = v683; v1622 = v681; v1623 = v679; } else { v675 = v676; v678 = v679; v680 = v681; v682 = v683; v684 = v685; v686 = v687; v688 = v689; v690 = v691; v692 = v693; v694 = v695; v696 = v697; v698 = v699; v700 = v701; v702 = v703; v704 = v705; v706 = v707; v708 = v709; v710 = v711; v712 = v713; v714 = v715; v716 = v717; v718 = v719; v720 = v721; v722 = v723; v724 = v725; v726 = v727; v728 = v729; v730 = v731; goto v674; }
+    if (v676 == v3) { v1613 = v731; v1614 = v729; v1615 = v727; v1616 = v725; v1617 = v723; v1618 = v721; v1619 = v719; v1620 = v717; v1621 = v715; v1622 = v713; v1623 = v711; v1624 = v709; v1625 = v707; v1626 = v705; v1627 = v703; v1628 = v701; v1629 = v699; v1630 = v697; v1631 = v695; v1632 = v693; v1633 = v691; v1634 = v689; v1635 = v687; v1636 = v685; v1637 = v683; v1638 = v681; v1639 = v679; } else { v675 = v676; v678 = v679; v680 = v681; v682 = v683; v684 = v685; v686 = v687; v688 = v689; v690 = v691; v692 = v693; v694 = v695; v696 = v697; v698 = v699; v700 = v701; v702 = v703; v704 = v705; v706 = v707; v708 = v709; v710 = v711; v712 = v713; v714 = v715; v716 = v717; v718 = v719; v720 = v721; v722 = v723; v724 = v725; v726 = v727; v728 = v729; v730 = v731; goto v674; }
 v192:;
     at(u8, v0) = 0;
     memcpy(v0 + 8, v144, 48u);
-    at(u8, v0 + 56) = v1621;
+    at(u8, v0 + 56) = v1637;
     memcpy(v0 + 57, v145, 7);
-    at(ptr_1, v0 + 64) = v1597;
-    at(u64_1, v0 + 72) = v1598;
-    at(u64_1, v0 + 80) = v1599;
-    at(u8, v0 + 88) = v1622;
+    at(ptr_1, v0 + 64) = v1613;
+    at(u64_1, v0 + 72) = v1614;
+    at(u64_1, v0 + 80) = v1615;
+    at(u8, v0 + 88) = v1638;
     memcpy(v0 + 89, v146, 7);
-    at(ptr_1, v0 + 96) = v1600;
-    at(u64_1, v0 + 104) = v1601;
-    at(u64_1, v0 + 112) = v1602;
-    at(u8, v0 + 120) = v1623;
+    at(ptr_1, v0 + 96) = v1616;
+    at(u64_1, v0 + 104) = v1617;
+    at(u64_1, v0 + 112) = v1618;
+    at(u8, v0 + 120) = v1639;
     memcpy(v0 + 121, v147, 7);
-    at(ptr_1, v0 + 128) = v1603;
-    at(u64_1, v0 + 136) = v1604;
-    at(u64_1, v0 + 144) = v1605;
+    at(ptr_1, v0 + 128) = v1619;
+    at(u64_1, v0 + 136) = v1620;
+    at(u64_1, v0 + 144) = v1621;
     memcpy(v0 + 152, v148, 216u);
-    at(ptr_1, v0 + 368) = v1606;
-    at(u64_1, v0 + 376) = v1607;
-    at(u64_1, v0 + 384) = v1608;
-    at(ptr_1, v0 + 392) = v1609;
-    at(u64_1, v0 + 400) = v1610;
-    at(u64_1, v0 + 408) = v1611;
-    at(ptr_1, v0 + 416) = v1612;
-    at(u64_1, v0 + 424) = v1613;
-    at(u64_1, v0 + 432) = v1614;
+    at(ptr_1, v0 + 368) = v1622;
+    at(u64_1, v0 + 376) = v1623;
+    at(u64_1, v0 + 384) = v1624;
+    at(ptr_1, v0 + 392) = v1625;
+    at(u64_1, v0 + 400) = v1626;
+    at(u64_1, v0 + 408) = v1627;
+    at(ptr_1, v0 + 416) = v1628;
+    at(u64_1, v0 + 424) = v1629;
+    at(u64_1, v0 + 432) = v1630;
     memcpy(v0 + 440, v149, 168u);
-    at(ptr_1, v0 + 608) = v1615;
-    at(u64_1, v0 + 616) = v1616;
-    at(u64_1, v0 + 624) = v1617;
-    at(ptr_1, v0 + 632) = v1618;
-    at(u64_1, v0 + 640) = v1619;
-    at(u64_1, v0 + 648) = v1620;
+    at(ptr_1, v0 + 608) = v1631;
+    at(u64_1, v0 + 616) = v1632;
+    at(u64_1, v0 + 624) = v1633;
+    at(ptr_1, v0 + 632) = v1634;
+    at(u64_1, v0 + 640) = v1635;
+    at(u64_1, v0 + 648) = v1636;
     memcpy(v0 + 656, v150, 24u);
     return;
-v1510:;
+v1526:;
     at(u8, v0) = 1;
     memset(v0 + 8, 0, 672u);
     return;
-v1478:;
+v1494:;
     memset(v70 + 7, 0, 48u);
     memset(v71, 0, 7);
     memset(v72, 0, 7);
@@ -4865,59 +4892,59 @@ v1478:;
     memset(v74, 0, 216u);
     memset(v75, 0, 168u);
     memset(v76, 0, 24u);
-    if ((v682 != 1) ? 1 : (v726 == 0)) goto v1516;
+    if ((v682 != 1) ? 1 : (v726 == 0)) goto v1532;
     sys_rattle_dealloc(v730);
-v1516:;
-    if ((v680 != 1) ? 1 : (v720 == 0)) goto v1521;
+v1532:;
+    if ((v680 != 1) ? 1 : (v720 == 0)) goto v1537;
     sys_rattle_dealloc(v724);
-v1521:;
-    if ((v678 != 1) ? 1 : (v714 == 0)) goto v1526;
+v1537:;
+    if ((v678 != 1) ? 1 : (v714 == 0)) goto v1542;
     sys_rattle_dealloc(v718);
-v1526:;
-    if (v708 == 0) goto v1530;
+v1542:;
+    if (v708 == 0) goto v1546;
     sys_rattle_dealloc(v712);
-v1530:;
-    if (v702 == 0) goto v1533;
+v1546:;
+    if (v702 == 0) goto v1549;
     sys_rattle_dealloc(v706);
-v1533:;
-    if (v696 == 0) goto v1536;
+v1549:;
+    if (v696 == 0) goto v1552;
     sys_rattle_dealloc(v700);
-v1536:;
-    std_alloc_vec_Vec_drop_15b9(v149 + 144);
-    if (v692 == 0) goto v1540;
-    v1542 = 0;
-v1541:;
-    memcpy(v7, v694 + (v1542 * 672u), 672u);
-    command_line_clap_builder_command_Command_Destruct_drop(v7);
-    u64 v1543 = v1542 + 1;
-    if (!(v1543 == v692)) { v1542 = v1543; goto v1541; }
-v1540:;
-    if (v690 == 0) goto v1548;
-    sys_rattle_dealloc(v694);
-v1548:;
-    if (v686 == 0) goto v1551;
-    v1553 = 0;
 v1552:;
-    u64 v1556 = v1553 * 104u;
-    u8 *v1561 = at(ptr_1, v688 + v1556 + 48);
-    u64 v1563 = at(u64_1, v688 + v1556 + 64);
-    u8 *v1565 = at(ptr_1, v688 + v1556 + 72);
-    u64 v1567 = at(u64_1, v688 + v1556 + 88);
-    if (at(u64_1, v688 + v1556 + 32) == 0) goto v1569;
-    sys_rattle_dealloc(at(ptr_1, v688 + v1556 + 16));
-v1569:;
-    if (v1563 == 0) goto v1574;
-    sys_rattle_dealloc(v1561);
-v1574:;
-    if (v1567 == 0) goto v1555;
-    sys_rattle_dealloc(v1565);
-v1555:;
-    u64 v1554 = v1553 + 1;
-    if (!(v1554 == v686)) { v1553 = v1554; goto v1552; }
-v1551:;
-    if (v684 == 0) goto v1580;
+    std_alloc_vec_Vec_drop_15b9(v149 + 144);
+    if (v692 == 0) goto v1556;
+    v1558 = 0;
+v1557:;
+    memcpy(v7, v694 + (v1558 * 672u), 672u);
+    command_line_clap_builder_command_Command_Destruct_drop(v7);
+    u64 v1559 = v1558 + 1;
+    if (!(v1559 == v692)) { v1558 = v1559; goto v1557; }
+v1556:;
+    if (v690 == 0) goto v1564;
+    sys_rattle_dealloc(v694);
+v1564:;
+    if (v686 == 0) goto v1567;
+    v1569 = 0;
+v1568:;
+    u64 v1572 = v1569 * 104u;
+    u8 *v1577 = at(ptr_1, v688 + v1572 + 48);
+    u64 v1579 = at(u64_1, v688 + v1572 + 64);
+    u8 *v1581 = at(ptr_1, v688 + v1572 + 72);
+    u64 v1583 = at(u64_1, v688 + v1572 + 88);
+    if (at(u64_1, v688 + v1572 + 32) == 0) goto v1585;
+    sys_rattle_dealloc(at(ptr_1, v688 + v1572 + 16));
+v1585:;
+    if (v1579 == 0) goto v1590;
+    sys_rattle_dealloc(v1577);
+v1590:;
+    if (v1583 == 0) goto v1571;
+    sys_rattle_dealloc(v1581);
+v1571:;
+    u64 v1570 = v1569 + 1;
+    if (!(v1570 == v686)) { v1569 = v1570; goto v1568; }
+v1567:;
+    if (v684 == 0) goto v1596;
     sys_rattle_dealloc(v688);
-v1580:;
+v1596:;
     at(u8, v0) = 1;
     memcpy(v0 + 8, v70 + 7, 48u);
     at(u8, v0 + 56) = 0;
@@ -4971,9 +4998,9 @@ static void command_line_subcommands_with_help(u8 *v0, u8 *v1, u8 v2) {
     at(ptr, v17 + 624) = v4;
     if (core_cmp_bytes_equal(v6, v8, (u8 *)text_check, 5)) { v56 = 1; v57 = (u8 *)&table_b31f2d2e; goto v41; }
     if (core_cmp_bytes_equal(v6, v8, (u8 *)text_show, 4)) { v56 = 1; v57 = (u8 *)&table_b31f2d2e; goto v41; }
-    if (core_cmp_bytes_equal(v6, v8, (u8 *)text_codes_cdb54161, 5)) { v56 = 2; v57 = (u8 *)&table_8b68c673; goto v41; }
-    if (core_cmp_bytes_equal(v6, v8, (u8 *)text_belongs, 7)) { v56 = 7; v57 = (u8 *)&table_bef0af1d; goto v41; }
-    if (core_cmp_bytes_equal(v6, v8, (u8 *)text_subset, 6)) { v56 = 21u; v57 = (u8 *)&table_6cadee51; goto v41; }
+    if (core_cmp_bytes_equal(v6, v8, (u8 *)text_codes_cdb54161, 5)) { v56 = 3; v57 = (u8 *)&table_97032e90; goto v41; }
+    if (core_cmp_bytes_equal(v6, v8, (u8 *)text_belongs, 7)) { v56 = 7; v57 = (u8 *)&table_000a9ad1; goto v41; }
+    if (core_cmp_bytes_equal(v6, v8, (u8 *)text_subset, 6)) { v56 = 21u; v57 = (u8 *)&table_1403bc36; goto v41; }
     if (core_cmp_bytes_equal(v6, v8, (u8 *)text_slice_07e3c19a, 5)) { v56 = 10u; v57 = (u8 *)&table_f6cbc851; goto v41; }
     flag v53 = core_cmp_bytes_equal(v6, v8, (u8 *)text_join_cb8780b7, 4);
     v56 = v53 ? 6 : 0; v57 = v53 ? (u8 *)&table_eed8d481 : v4;

@@ -5,9 +5,9 @@
 #include "program.h"
 
 static const u8 table_18327a07[4] = {0};
+static const _Alignas(4) u8 table_55ba7287[1] = {0};
 static const u8 table_62a9c92b[4] = {0,3};
 static const u8 table_87e6e93c[2] = {0,1};
-static const _Alignas(2) u8 table_d0e67785[1] = {0};
 static const _Alignas(8) u8 table_faed1f12[232] = {16,0,0,0,0,0,0,0,17,0,0,0,0,0,0,0,18,0,0,0,0,0,0,0,19,0,0,0,0,0,0,0,21,0,0,0,0,0,0,0,22,0,0,0,0,0,0,0,
 0,0,0,0,0,0,0,0,23,0,0,0,0,0,0,0,24,0,0,0,0,0,0,0,25,0,0,0,0,0,0,0,1,0,0,0,0,0,0,0,26,0,0,0,0,0,0,0,2,
 0,0,0,0,0,0,0,3,0,0,0,0,0,0,0,27,0,0,0,0,0,0,0,4,0,0,0,0,0,0,0,5,0,0,0,0,0,0,0,28,0,0,0,0,0,0,0,6,0,0,
@@ -16,9 +16,17 @@ static const _Alignas(8) u8 table_faed1f12[232] = {16,0,0,0,0,0,0,0,17,0,0,0,0,0
 static const u8 text_BASEGDEFGPOSGSUBHVARMVAR[52] = "BASEGDEFGPOSGSUBHVARMVARSTATVVARavarcvarfvargvarkern";
 static const u8 text_BASEGDEFGPOSGSUBkern[20] = "BASEGDEFGPOSGSUBkern";
 
+static void divided_tables_all_tables_OpenTables_with(u8 *v0, u8 *v1, u8 *v2);
+static void divided_tables_glyph_variations_GlyphVariationsPartedTable_frame(u8 *v0, u8 *v1);
+static void divided_tables_glyph_variations_with_data(u8 *v0, u8 *v1, u8 *v2, u64 v3);
+static void divided_tables_held_sequences_HeldSequences_open(u8 *v0, u8 *v1, u16 v2);
+static void divided_tables_metrics_MetricsOpenFrom_open_543f(u8 *v0, u8 *v1);
+static void divided_tables_metrics_MetricsOpenFrom_open_5adc(u8 *v0, u8 *v1);
 static void divided_tables_metrics_copy_kept(u8 *v0, u8 *v1, u64 v2, u8 *v3, u64 v4);
 static void divided_tables_metrics_kept_metrics_6f24(u8 *v0, u8 *v1, u64 v2, u64 v3);
 static void divided_tables_metrics_metrics_frame(u8 *v0, u8 *v1, u64 v2, u64 v3);
+static void divided_tables_sequence_tables_table_of_a10e(u8 *v0, u8 *v1, u64 v2);
+static void divided_tables_sequence_union_UnionPairsIterator_next_ec12(u8 *v0, u8 *v1);
 static void font_layout_entry_read_entry(u8 *v0, u8 *v1, u64 v2, u8 *v3, u16 v4, u64 v5);
 static void font_layout_layout_Layout_open(u8 *v0, u8 *v1, u64 v2);
 static void font_layout_lookup_subtable_read_plain(u8 *v0, u8 *v1, u64 v2, u16 v3, u64 v4, u32 v5);
@@ -33,7 +41,7 @@ static u8_u64 font_write_size_table_length_895b(u8 *v0, u8 *v1, u64 v2);
 static u8_u64 font_write_size_table_length_a65d(u8 *v0, u8 v1, u8 *v2, u64 v3);
 static flag font_write_whole_file_is_whole_file(u8 *v0, u8 v1, u8 *v2, u8 *v3, u64 v4);
 
-void divided_tables_all_tables_MadeTables_drop(u8 *v0) {
+void divided_tables_all_tables_MadeTables_drop_2de7(u8 *v0) {
     u8 v2 = at(u8, v0);
     u8 *v4 = at(ptr_1, v0 + 8);
     u64 v6 = at(u64_1, v0 + 24);
@@ -43,554 +51,740 @@ void divided_tables_all_tables_MadeTables_drop(u8 *v0) {
     u8 v14 = at(u8, v0 + 64);
     u8 *v16 = at(ptr_1, v0 + 72);
     u64 v18 = at(u64_1, v0 + 88);
-    if ((at(u8, v0 + 96) != 1) ? 1 : (at(u64_1, v0 + 120) == 0)) goto v26;
-    sys_rattle_dealloc(at(ptr_1, v0 + 104));
-v26:;
-    if ((v14 != 1) ? 1 : (v18 == 0)) goto v33;
+    u8 v20 = at(u8, v0 + 96);
+    u8 *v22 = at(ptr_1, v0 + 104);
+    u64 v24 = at(u64_1, v0 + 120);
+    if ((at(u8, v0 + 128) != 1) ? 1 : (at(u64_1, v0 + 152) == 0)) goto v32;
+    sys_rattle_dealloc(at(ptr_1, v0 + 136));
+v32:;
+    if ((v20 != 1) ? 1 : (v24 == 0)) goto v39;
+    sys_rattle_dealloc(v22);
+v39:;
+    if ((v14 != 1) ? 1 : (v18 == 0)) goto v44;
     sys_rattle_dealloc(v16);
-v33:;
-    if ((v8 != 1) ? 1 : (v12 == 0)) goto v38;
+v44:;
+    if ((v8 != 1) ? 1 : (v12 == 0)) goto v49;
     sys_rattle_dealloc(v10);
-v38:;
+v49:;
     if ((v2 != 1) ? 1 : (v6 == 0)) return;
     sys_rattle_dealloc(v4);
     return;
 }
 
 void divided_tables_all_tables_MadeTables_frames(u8 *v0, u8 *v1) {
-    _Alignas(8) u8 v3[1], v4[32], v5[24], v7[40], v8[40], v9[24], v10[160], v11[24];
-    u8 v6[31], *v81, *v175;
-    u64 v38, v102, v112, v115, v123, v125, v155, v148, v165, v174, v176, v219;
-    flag v173;
-    memset(v10, 0, 160u);
-    memset(v11, 0, 24u);
-    divided_tables_all_tables_OpenTables_of_112b(v10, v1);
-    memset(v8, 0, 40u);
-    divided_tables_metrics_metrics_frame(v8, v1, 7, 8);
-    u8 v14 = at(u8, v8 + 8);
-    u8 *v16 = at(ptr, v8 + 16);
-    u64 v18 = at(u64, v8 + 24);
-    u64 v20 = at(u64, v8 + 32);
-    if (!(at(u8, v8) == 0)) goto v23;
-    u64 v24 = (u64)v14;
-    u8 *v27 = at(ptr_1, at(ptr, v1 + 8));
-    u64 v28 = (u64)v27;
-    u16 v30 = at(u16_1, v27 + 4);
-    u64 v32 = (u64)bswap16(v30);
-    if (v30 == 0) { v173 = 1; v174 = 0; v175 = (u8 *)0; v176 = 0; goto v34; }
-    v38 = 0;
-v35:;
-    u64 v40 = v38 << 4;
-    if (!((((at(u8, v27 + (i64)v40 + 12) == 112u) & (at(u8, v27 + (i64)v40 + 13) == 111u)) & (at(u8, v27 + (i64)v40 + 14) == 115u)) & (at(u8, v27 + (i64)v40 + 15) == 116u))) goto v36;
-    u32 v62 = at(u32_1, v27 + (i64)v40 + 24);
-    u32 v63 = bswap32(v62);
-    u64 v64 = (u64)bswap32(at(u32_1, v27 + (i64)v40 + 20));
-    u64 v65 = (u64)v63;
-    if (!(v63 < 32u)) goto v69;
-    if (v62 == 0) { v81 = v3; goto v71; }
-    u64_u64 v74 = sys_rattle_alloc(v65, 1);
-    if (!(v74._0 & 1)) goto v78;
-    v81 = (u8 *)v74._1;
-v71:;
-    u64 v82 = (u64)v81;
-    if (!((((u64)v81) - ((u64)(v27 + (i64)v64))) < v65)) goto v88;
-    if (v63 < 4) { v123 = 0; goto v90; }
-    if ((v82 - (v28 + v64)) < 32u) { v123 = 0; goto v90; }
-    if (v63 < 16u) { v112 = 0; goto v97; }
-    u64 v99 = v65 & 12u;
-    u64 v100 = v65 & 16u;
-    v102 = 0;
-v101:;
-    at(u8x16_1, v81 + v102) = at(u8x16_1, (v27 + (i64)v64) + v102);
-    u64 v103 = v102 + 16u;
-    if (!(v103 == v100)) { v102 = v103; goto v101; }
-    if (v100 == v65) { v173 = 0; v174 = 1; v175 = v81; v176 = v65; goto v34; }
-    if (v99 == 0) { v123 = v100; goto v90; }
-    v112 = v100;
-v97:;
-    u64 v113 = v65 & 28u;
-    v115 = v112;
-v114:;
-    at(u8x4_1, v81 + v115) = at(u8x4_1, (v27 + (i64)v64) + v115);
-    u64 v116 = v115 + 4;
-    if (!(v116 == v113)) { v115 = v116; goto v114; }
-    if (v113 == v65) { v173 = 0; v174 = 1; v175 = v81; v176 = v65; goto v34; }
-    v123 = v113;
-v90:;
-    v125 = v123;
-v124:;
-    at(u8, v81 + v125) = at(u8, (v27 + (i64)v64) + v125);
-    u64 v126 = v125 + 1;
-    if (v126 == v65) { v173 = 0; v174 = 1; v175 = v81; v176 = v65; goto v34; }
-    v125 = v126; goto v124;
-v88:;
-    memmove_any(v81, v27 + (i64)v64, v65);
-    v173 = 0; v174 = 1; v175 = v81; v176 = v65; goto v34;
-v69:;
-    u64_u64 v132 = sys_rattle_alloc(32u, 1);
-    if (!(v132._0 & 1)) goto v78;
-    u64 v136 = v132._1;
-    u8 *v137 = (u8 *)v136;
-    if (!((v136 - ((u64)(v27 + (i64)v64))) < 32u)) goto v142;
-    if ((v136 - (v28 + v64)) < 32u) v155 = 0; else { v148 = 0; goto v147; }
-v146:;
-    at(u8, v137 + v155) = at(u8, (v27 + (i64)v64) + v155);
-    u64 v156 = v155 + 1;
-    if (v156 == 32u) goto v154;
-    v155 = v156; goto v146;
+    u8 v3[1], *v86, *v197, *v309;
+    _Alignas(8) u8 v4[40], v5[40], v6[16], v7[232], v8[240], v9[40];
+    u64 v43, v107, v117, v120, v128, v130, v160, v153, v170, v196, v198, v308;
+    flag v195;
+    memset(v8, 0, 240u);
+    memset(v9, 0, 40u);
+    divided_tables_all_tables_OpenTables_of_08e2(v8, v1);
+    if (!(at(u8, v8) == 0)) goto v13;
+    memcpy(v7, v8 + 8, 232u);
+    memset(v5, 0, 40u);
+    divided_tables_metrics_metrics_frame(v5, v1, 7, 8);
+    u8 v17 = at(u8, v5 + 8);
+    u8 *v19 = at(ptr, v5 + 16);
+    u64 v21 = at(u64, v5 + 24);
+    u64 v23 = at(u64, v5 + 32);
+    if (!(at(u8, v5) == 0)) goto v26;
+    u64 v29 = (u64)v17;
+    u8 *v32 = at(ptr_1, at(ptr, v1 + 8));
+    u64 v33 = (u64)v32;
+    u16 v35 = at(u16_1, v32 + 4);
+    u64 v37 = (u64)bswap16(v35);
+    if (v35 == 0) { v195 = 1; v196 = 0; v197 = (u8 *)0; v198 = 0; goto v39; }
+    v43 = 0;
+v40:;
+    u64 v45 = v43 << 4;
+    if (!((((at(u8, v32 + (i64)v45 + 12) == 112u) & (at(u8, v32 + (i64)v45 + 13) == 111u)) & (at(u8, v32 + (i64)v45 + 14) == 115u)) & (at(u8, v32 + (i64)v45 + 15) == 116u))) goto v41;
+    u32 v67 = at(u32_1, v32 + (i64)v45 + 24);
+    u32 v68 = bswap32(v67);
+    u64 v69 = (u64)bswap32(at(u32_1, v32 + (i64)v45 + 20));
+    u64 v70 = (u64)v68;
+    if (!(v68 < 32u)) goto v74;
+    if (v67 == 0) { v86 = v3; goto v76; }
+    u64_u64 v79 = sys_rattle_alloc(v70, 1);
+    if (!(v79._0 & 1)) goto v83;
+    v86 = (u8 *)v79._1;
+v76:;
+    u64 v87 = (u64)v86;
+    if (!((((u64)v86) - ((u64)(v32 + (i64)v69))) < v70)) goto v93;
+    if (v68 < 4) { v128 = 0; goto v95; }
+    if ((v87 - (v33 + v69)) < 32u) { v128 = 0; goto v95; }
+    if (v68 < 16u) { v117 = 0; goto v102; }
+    u64 v104 = v70 & 12u;
+    u64 v105 = v70 & 16u;
+    v107 = 0;
+v106:;
+    at(u8x16_1, v86 + v107) = at(u8x16_1, (v32 + (i64)v69) + v107);
+    u64 v108 = v107 + 16u;
+    if (!(v108 == v105)) { v107 = v108; goto v106; }
+    if (v105 == v70) { v195 = 0; v196 = 1; v197 = v86; v198 = v70; goto v39; }
+    if (v104 == 0) { v128 = v105; goto v95; }
+    v117 = v105;
+v102:;
+    u64 v118 = v70 & 28u;
+    v120 = v117;
+v119:;
+    at(u8x4_1, v86 + v120) = at(u8x4_1, (v32 + (i64)v69) + v120);
+    u64 v121 = v120 + 4;
+    if (!(v121 == v118)) { v120 = v121; goto v119; }
+    if (v118 == v70) { v195 = 0; v196 = 1; v197 = v86; v198 = v70; goto v39; }
+    v128 = v118;
+v95:;
+    v130 = v128;
+v129:;
+    at(u8, v86 + v130) = at(u8, (v32 + (i64)v69) + v130);
+    u64 v131 = v130 + 1;
+    if (v131 == v70) { v195 = 0; v196 = 1; v197 = v86; v198 = v70; goto v39; }
+    v130 = v131; goto v129;
+v93:;
+    memmove_any(v86, v32 + (i64)v69, v70);
+    v195 = 0; v196 = 1; v197 = v86; v198 = v70; goto v39;
+v74:;
+    u64_u64 v137 = sys_rattle_alloc(32u, 1);
+    if (!(v137._0 & 1)) goto v83;
+    u64 v141 = v137._1;
+    u8 *v142 = (u8 *)v141;
+    if (!((v141 - ((u64)(v32 + (i64)v69))) < 32u)) goto v147;
+    if ((v141 - (v33 + v69)) < 32u) v160 = 0; else { v153 = 0; goto v152; }
+v151:;
+    at(u8, v142 + v160) = at(u8, (v32 + (i64)v69) + v160);
+    u64 v161 = v160 + 1;
+    if (v161 == 32u) goto v159;
+    v160 = v161; goto v151;
+v152:;
+    at(u8x16_1, v142 + v153) = at(u8x16_1, (v32 + (i64)v69) + v153);
+    u64 v154 = v153 + 16u;
+    if (v154 == 32u) goto v159;
+    v153 = v154; goto v152;
 v147:;
-    at(u8x16_1, v137 + v148) = at(u8x16_1, (v27 + (i64)v64) + v148);
-    u64 v149 = v148 + 16u;
-    if (v149 == 32u) goto v154;
-    v148 = v149; goto v147;
-v142:;
-    memmove(v137, v27 + (i64)v64, 32u);
-v154:;
-    if ((v136 - ((u64)(u8 *)table_62a9c92b)) < 4) v165 = 0; else goto v164;
-v163:;
-    at(u8, v137 + v165) = at(u8, (u8 *)table_62a9c92b + v165);
-    u64 v166 = v165 + 1;
-    if (v166 == 4) { v173 = 0; v174 = 1; v175 = v137; v176 = 32u; goto v34; }
-    v165 = v166; goto v163;
-v164:;
-    at(u32_1, v137) = 768u;
-    v173 = 0; v174 = 1; v175 = v137; v176 = 32u; goto v34;
-v78:;
-    if ((v14 != 1) ? 1 : (v20 == 0)) goto v192;
-    sys_rattle_dealloc(v16);
-v192:;
-    at(u8, v0) = 1;
-    memset(v0 + 8, 0, 128u);
-    return;
-v36:;
-    u64 v37 = v38 + 1;
-    if (v37 == v32) { v173 = 1; v174 = 0; v175 = (u8 *)0; v176 = 0; } else { v38 = v37; goto v35; }
-v34:;
-    memset(v7, 0, 40u);
-    divided_tables_metrics_metrics_frame(v7, v1, 14u, 15u);
-    u8 v179 = at(u8, v7 + 8);
-    u8 *v181 = at(ptr, v7 + 16);
-    u64 v183 = at(u64, v7 + 24);
-    u64 v185 = at(u64, v7 + 32);
-    if (!(at(u8, v7) == 0)) goto v188;
-    u8 v196 = at(u8, v10 + 72);
-    if (!(v196 == 0)) goto v199;
-    memset(v5, 0, 24u);
-    goto v200;
-v199:;
-    memset(v4, 0, 32u);
-    u16 v203 = at(u16, v10 + 146);
-    u64 v204 = (u64)v203;
-    if (!(v203 == 0)) goto v207;
-    divided_tables_glyph_variations_with_data(v4, v10 + 80, v3, v204);
-    goto v208;
-v207:;
-    u64_u64 v211 = sys_rattle_alloc(v204 << 4, 8);
-    if (!(v211._0 & 1)) goto v215;
-    u8 *v217 = (u8 *)v211._1;
-    v219 = 0;
-v218:;
-    u64 v221 = v219 << 4;
-    at(ptr_1, v217 + v221) = (u8 *)table_d0e67785;
-    at(u64_1, v217 + v221 + 8) = 0;
-    u64 v220 = v219 + 1;
-    if (!(v220 == v204)) { v219 = v220; goto v218; }
-    divided_tables_glyph_variations_with_data(v4, v10 + 80, v217, v204);
-    sys_rattle_dealloc(v217);
-v208:;
-    u8 v227 = at(u8, v4);
-    memcpy(v6 + 7, v4 + 8, 24u);
-    if (!(v227 == 0)) goto v226;
-    memcpy(v5, v6 + 7, 24u);
-v200:;
-    memcpy(v11, v5, 24u);
-    at(u8, v0) = 0;
-    at(u64_1, v0 + 8) = (u64)v196;
-    memcpy(v0 + 16, v11, 24u);
-    at(u64_1, v0 + 40) = v24;
-    at(ptr_1, v0 + 48) = v16;
-    at(u64_1, v0 + 56) = v18;
-    at(u64_1, v0 + 64) = v20;
-    at(u64_1, v0 + 72) = v174;
-    at(ptr_1, v0 + 80) = v175;
-    at(u64_1, v0 + 88) = v176;
-    at(u64_1, v0 + 96) = v176;
-    at(u64_1, v0 + 104) = (u64)v179;
-    at(ptr_1, v0 + 112) = v181;
-    at(u64_1, v0 + 120) = v183;
-    at(u64_1, v0 + 128) = v185;
-    return;
-v215:;
+    memmove(v142, v32 + (i64)v69, 32u);
+v159:;
+    if ((v141 - ((u64)(u8 *)table_62a9c92b)) < 4) v170 = 0; else goto v169;
+v168:;
+    at(u8, v142 + v170) = at(u8, (u8 *)table_62a9c92b + v170);
+    u64 v171 = v170 + 1;
+    if (v171 == 4) { v195 = 0; v196 = 1; v197 = v142; v198 = 32u; goto v39; }
+    v170 = v171; goto v168;
+v169:;
+    at(u32_1, v142) = 768u;
+    v195 = 0; v196 = 1; v197 = v142; v198 = 32u; goto v39;
+v83:;
+    if ((v17 != 1) ? 1 : (v23 == 0)) goto v214;
+    sys_rattle_dealloc(v19);
+v214:;
+    u8 *v219 = at(ptr, v7 + 96);
+    u8 *v221 = at(ptr, v7 + 120);
+    u64 v223 = at(u64, v7 + 136);
+    if (!(at(u8, v7 + 80) == 1)) goto v226;
+    if (at(u64, v7 + 112) == 0) goto v230;
+    sys_rattle_dealloc(v219);
+v230:;
+    if (v223 == 0) goto v226;
+    sys_rattle_dealloc(v221);
 v226:;
-    memset(v11, 0, 24u);
-    memset(v9, 0, 24u);
-    if ((v179 != 1) ? 1 : (v185 == 0)) goto v263;
+    at(u8, v0) = 1;
+    memset(v0 + 8, 0, 160u);
+    return;
+v41:;
+    u64 v42 = v43 + 1;
+    if (v42 == v37) { v195 = 1; v196 = 0; v197 = (u8 *)0; v198 = 0; } else { v43 = v42; goto v40; }
+v39:;
+    memset(v4, 0, 40u);
+    divided_tables_metrics_metrics_frame(v4, v1, 14u, 15u);
+    u8 v201 = at(u8, v4 + 8);
+    u8 *v203 = at(ptr, v4 + 16);
+    u64 v205 = at(u64, v4 + 24);
+    u64 v207 = at(u64, v4 + 32);
+    if (!(at(u8, v4) == 0)) goto v210;
+    u64 v235 = (u64)v201;
+    divided_tables_glyph_variations_GlyphVariationsPartedTable_frame(v9, v7 + 144);
+    u8 v239 = at(u8, v9 + 8);
+    if (!(at(u8, v9) == 0)) goto v242;
+    u8 *v273 = at(ptr, v9 + 16);
+    u64 v275 = at(u64, v9 + 24);
+    u64 v277 = at(u64, v9 + 32);
+    if (!(at(u8, v1 + 112) == 1)) { v308 = 0; v309 = (u8 *)0; goto v282; }
+    u8 v286 = at(u8, at(ptr, v1 + 120) + 312);
+    if (v286 == 1) { v308 = 1; v309 = v3; goto v282; }
+    v308 = (u64)v286; v309 = (v286 == 0) ? ((u8 *)0) : v3;
+v282:;
+    divided_tables_all_tables_OpenTables_drop(v8 + 8);
+    at(u8, v0) = 0;
+    at(u64_1, v0 + 8) = (u64)v239;
+    at(ptr_1, v0 + 16) = v273;
+    at(u64_1, v0 + 24) = v275;
+    at(u64_1, v0 + 32) = v277;
+    at(u64_1, v0 + 40) = v29;
+    at(ptr_1, v0 + 48) = v19;
+    at(u64_1, v0 + 56) = v21;
+    at(u64_1, v0 + 64) = v23;
+    at(u64_1, v0 + 72) = v196;
+    at(ptr_1, v0 + 80) = v197;
+    at(u64_1, v0 + 88) = v198;
+    at(u64_1, v0 + 96) = v198;
+    at(u64_1, v0 + 104) = v235;
+    at(ptr_1, v0 + 112) = v203;
+    at(u64_1, v0 + 120) = v205;
+    at(u64_1, v0 + 128) = v207;
+    at(u64_1, v0 + 136) = v308;
+    at(ptr_1, v0 + 144) = v309;
+    memset(v0 + 152, 0, 16u);
+    return;
+v242:;
+    memset(v6, 0, 16u);
+    if ((v201 != 1) ? 1 : (v207 == 0)) goto v295;
+    sys_rattle_dealloc(v203);
+v295:;
+    if (v195 | (v198 == 0)) goto v299;
+    sys_rattle_dealloc(v197);
+v299:;
+    if ((v17 != 1) ? 1 : (v23 == 0)) goto v304;
+    sys_rattle_dealloc(v19);
+v304:;
+    divided_tables_all_tables_OpenTables_drop(v7);
+    at(u8, v0) = 1;
+    memset(v0 + 8, 0, 144u);
+    memcpy(v0 + 152, v6, 16u);
+    return;
+v210:;
+    memset(v6, 0, 16u);
+    if (v195 | (v198 == 0)) goto v245;
+    sys_rattle_dealloc(v197);
+v245:;
+    if ((v17 != 1) ? 1 : (v23 == 0)) goto v250;
+    sys_rattle_dealloc(v19);
+v250:;
+    u8 *v255 = at(ptr, v7 + 96);
+    u8 *v257 = at(ptr, v7 + 120);
+    u64 v259 = at(u64, v7 + 136);
+    if (!(at(u8, v7 + 80) == 1)) goto v262;
+    if (at(u64, v7 + 112) == 0) goto v266;
+    sys_rattle_dealloc(v255);
+v266:;
+    if (v259 == 0) goto v262;
+    sys_rattle_dealloc(v257);
+v262:;
+    at(u8, v0) = 1;
+    memset(v0 + 8, 0, 144u);
+    memcpy(v0 + 152, v6, 16u);
+    return;
+v26:;
+    u8 *v179 = at(ptr, v7 + 96);
+    u8 *v181 = at(ptr, v7 + 120);
+    u64 v183 = at(u64, v7 + 136);
+    if (!(at(u8, v7 + 80) == 1)) goto v186;
+    if (at(u64, v7 + 112) == 0) goto v190;
+    sys_rattle_dealloc(v179);
+v190:;
+    if (v183 == 0) goto v186;
     sys_rattle_dealloc(v181);
-v263:;
-    if (v173 | (v176 == 0)) goto v267;
-    sys_rattle_dealloc(v175);
-v267:;
-    if ((v14 != 1) ? 1 : (v20 == 0)) goto v272;
-    sys_rattle_dealloc(v16);
-v272:;
+v186:;
     at(u8, v0) = 1;
-    at(u64_1, v0 + 8) = 0;
-    memcpy(v0 + 16, v9, 24u);
-    memset(v0 + 40, 0, 96u);
+    memset(v0 + 8, 0, 160u);
     return;
-v188:;
-    memset(v9, 0, 24u);
-    if (v173 | (v176 == 0)) goto v234;
-    sys_rattle_dealloc(v175);
-v234:;
-    if ((v14 != 1) ? 1 : (v20 == 0)) goto v239;
-    sys_rattle_dealloc(v16);
-v239:;
+v13:;
     at(u8, v0) = 1;
-    at(u64_1, v0 + 8) = 0;
-    memcpy(v0 + 16, v9, 24u);
-    memset(v0 + 40, 0, 96u);
-    return;
-v23:;
-    at(u8, v0) = 1;
-    memset(v0 + 8, 0, 128u);
+    memset(v0 + 8, 0, 160u);
     return;
 }
 
-void divided_tables_all_tables_OpenTables_of_112b(u8 *v0, u8 *v1) {
-    _Alignas(8) u8 v3[24], v4[24], v5[24], v6[80], v7[24], v9[72], v11[72];
-    _Alignas(2) u8 v8[6], v10[6];
-    u64 v27, v58, v62, v108, v112, v143, v147, v192, v194, v195, v197, v224;
-    u8 *v57, *v142, *v193, *v196;
-    memset(v10, 0, 6);
-    memset(v11, 0, 72u);
-    u8 *v13 = at(ptr, v1 + 8);
-    u16 v15 = at(u16, v13 + 64);
-    u8 *v16 = at(ptr_2, v13);
-    u16 v18 = at(u16_1, v16 + 4);
-    u64 v20 = (u64)bswap16(v18);
-    if (!(v18 == 0)) { v27 = 0; goto v23; }
-    memset(v8, 0, 6);
-    v192 = 0; v193 = (u8 *)table_d0e67785; v194 = 0; v195 = 0; v196 = (u8 *)table_d0e67785; v197 = 0; goto v24;
-v23:;
-    u64 v30 = v27 << 4;
-    if (!((((at(u8, v16 + (i64)v30 + 12) == 104u) & (at(u8, v16 + (i64)v30 + 13) == 109u)) & (at(u8, v16 + (i64)v30 + 14) == 116u)) & (at(u8, v16 + (i64)v30 + 15) == 120u))) goto v25;
-    v57 = v16 + (i64)((u64)bswap32(at(u32_1, v16 + (i64)v30 + 20))); v58 = (u64)bswap32(at(u32_1, v16 + (i64)v30 + 24)); goto v29;
+void divided_tables_all_tables_OpenTables_drop(u8 *v0) {
+    u8 *v5 = at(ptr_1, v0 + 96);
+    u8 *v7 = at(ptr_1, v0 + 120);
+    u64 v9 = at(u64_1, v0 + 136);
+    if (!(at(u8, v0 + 80) == 1)) return;
+    if (at(u64_1, v0 + 112) == 0) goto v16;
+    sys_rattle_dealloc(v5);
+v16:;
+    if (v9 == 0) return;
+    sys_rattle_dealloc(v7);
+    return;
+}
+
+void divided_tables_all_tables_OpenTables_of_08e2(u8 *v0, u8 *v1) {
+    _Alignas(8) u8 v3[24], v4[24], v5[24], v6[80], v7[24], v9[72], v10[80], v11[24], v15[72], v19[72];
+    _Alignas(2) u8 v8[6], v12[6], v13[6], v14[6], v16[6], v17[6], v18[6], v20[6];
+    u8 *v37, *v40, *v116, *v201, *v252, *v255, *v295, *v299, *v305, *v308, *v314, *v318, *v324, *v327;
+    u64 v38, v41, v42, v86, v117, v121, v167, v171, v202, v206, v251, v253, v254, v256, v282, v296, v297, v300, v301, v302, v303, v304, v306, v307, v309, v310, v311, v315, v316, v319, v320, v321, v322, v323, v325, v326, v328, v329, v330;
+    flag v294, v313;
+    u16 v298, v317;
+    memset(v16, 0, 6);
+    memset(v17, 0, 6);
+    memset(v18, 0, 6);
+    memset(v19, 0, 72u);
+    memset(v20, 0, 6);
+    memset(v10, 0, 80u);
+    memset(v12, 0, 6);
+    memset(v13, 0, 6);
+    if (!(at(u8, v1 + 112) == 1)) { v40 = (u8 *)0; v41 = 0; v42 = 0; goto v25; }
+    u8 *v27 = at(ptr, v1 + 120);
+    u8 v29 = at(u8, v27 + 312);
+    if (!(v29 == 1)) { v37 = (u8 *)0; v38 = 0; goto v32; }
+    v37 = at(ptr, v27 + 320); v38 = at(u64, v27 + 328);
+v32:;
+    v40 = v37; v41 = v38; v42 = (u64)v29;
 v25:;
-    u64 v26 = v27 + 1;
-    if (v26 == v20) { v57 = (u8 *)table_d0e67785; v58 = 0; } else { v27 = v26; goto v23; }
-v29:;
-    v62 = 0;
-v59:;
-    u64 v65 = v62 << 4;
-    if (!((((at(u8, v16 + (i64)v65 + 12) == 104u) & (at(u8, v16 + (i64)v65 + 13) == 104u)) & (at(u8, v16 + (i64)v65 + 14) == 101u)) & (at(u8, v16 + (i64)v65 + 15) == 97u))) goto v60;
-    if (bswap32(at(u32_1, v16 + (i64)v65 + 24)) < 36u) { v108 = 0; goto v64; }
-    u16 v94 = at(u16_1, v16 + (i64)((u64)bswap32(at(u32_1, v16 + (i64)v65 + 20))) + 34);
-    u16 v96 = bswap16(v94);
-    if ((v94 == 0) | (v15 < v96)) { v108 = 0; goto v64; }
-    u64 v100 = (u64)v96;
-    v108 = (v58 < ((((u64)((u16)(v15 - v96))) << 1) + (v100 << 2))) ? 0 : v100; goto v64;
-v60:;
-    u64 v61 = v62 + 1;
-    if (v61 == v20) v108 = 0; else { v62 = v61; goto v59; }
-v64:;
+    at(u64, v11) = v42;
+    at(ptr, v11 + 8) = v40;
+    at(u64, v11 + 16) = v41;
+    divided_tables_held_sequences_HeldSequences_open(v10, v11, at(u16, at(ptr, v1 + 8) + 64));
+    u16 v51 = at(u16, v10 + 8);
+    u8 v53 = at(u8, v10 + 16);
+    flag v54 = at(u8, v10) == 0;
+    if (!v54) goto v56;
+    u64 v58 = at(u64, v10 + 24);
+    u8 *v60 = at(ptr, v10 + 32);
+    u64 v62 = at(u64, v10 + 40);
+    u64 v64 = at(u64, v10 + 48);
+    u8 *v66 = at(ptr, v10 + 56);
+    u64 v68 = at(u64, v10 + 64);
+    u64 v70 = at(u64, v10 + 72);
+    u64 v71 = (u64)v53;
+    u8 *v72 = at(ptr, v1 + 8);
+    u16 v74 = at(u16, v72 + 64);
+    u8 *v75 = at(ptr_2, v72);
+    u16 v77 = at(u16_1, v75 + 4);
+    u64 v79 = (u64)bswap16(v77);
+    if (!(v77 == 0)) { v86 = 0; goto v82; }
     memset(v8, 0, 6);
-    v112 = 0;
-v109:;
-    u64 v115 = v112 << 4;
-    if (!((((at(u8, v16 + (i64)v115 + 12) == 118u) & (at(u8, v16 + (i64)v115 + 13) == 109u)) & (at(u8, v16 + (i64)v115 + 14) == 116u)) & (at(u8, v16 + (i64)v115 + 15) == 120u))) goto v110;
-    v142 = v16 + (i64)((u64)bswap32(at(u32_1, v16 + (i64)v115 + 20))); v143 = (u64)bswap32(at(u32_1, v16 + (i64)v115 + 24)); goto v114;
-v110:;
-    u64 v111 = v112 + 1;
-    if (v111 == v20) { v142 = (u8 *)table_d0e67785; v143 = 0; } else { v112 = v111; goto v109; }
-v114:;
-    v147 = 0;
-v144:;
-    u64 v149 = v147 << 4;
-    if (!((((at(u8, v16 + (i64)v149 + 12) == 118u) & (at(u8, v16 + (i64)v149 + 13) == 104u)) & (at(u8, v16 + (i64)v149 + 14) == 101u)) & (at(u8, v16 + (i64)v149 + 15) == 97u))) goto v145;
-    if (bswap32(at(u32_1, v16 + (i64)v149 + 24)) < 36u) { v192 = v108; v193 = v57; v194 = v58; v195 = v143; v196 = v142; v197 = 0; goto v24; }
-    u16 v178 = at(u16_1, v16 + (i64)((u64)bswap32(at(u32_1, v16 + (i64)v149 + 20))) + 34);
-    u16 v180 = bswap16(v178);
-    if ((v178 == 0) | (v15 < v180)) { v192 = v108; v193 = v57; v194 = v58; v195 = v143; v196 = v142; v197 = 0; goto v24; }
-    u64 v184 = (u64)v180;
-    v192 = v108; v193 = v57; v194 = v58; v195 = v143; v196 = v142; v197 = (v143 < ((((u64)((u16)(v15 - v180))) << 1) + (v184 << 2))) ? 0 : v184; goto v24;
-v145:;
-    u64 v146 = v147 + 1;
-    if (v146 == v20) { v192 = v108; v193 = v57; v194 = v58; v195 = v143; v196 = v142; v197 = 0; } else { v147 = v146; goto v144; }
-v24:;
+    v251 = 0; v252 = (u8 *)table_55ba7287; v253 = 0; v254 = 0; v255 = (u8 *)table_55ba7287; v256 = 0; goto v83;
+v82:;
+    u64 v89 = v86 << 4;
+    if (!((((at(u8, v75 + (i64)v89 + 12) == 104u) & (at(u8, v75 + (i64)v89 + 13) == 109u)) & (at(u8, v75 + (i64)v89 + 14) == 116u)) & (at(u8, v75 + (i64)v89 + 15) == 120u))) goto v84;
+    v116 = v75 + (i64)((u64)bswap32(at(u32_1, v75 + (i64)v89 + 20))); v117 = (u64)bswap32(at(u32_1, v75 + (i64)v89 + 24)); goto v88;
+v84:;
+    u64 v85 = v86 + 1;
+    if (v85 == v79) { v116 = (u8 *)table_55ba7287; v117 = 0; } else { v86 = v85; goto v82; }
+v88:;
+    v121 = 0;
+v118:;
+    u64 v124 = v121 << 4;
+    if (!((((at(u8, v75 + (i64)v124 + 12) == 104u) & (at(u8, v75 + (i64)v124 + 13) == 104u)) & (at(u8, v75 + (i64)v124 + 14) == 101u)) & (at(u8, v75 + (i64)v124 + 15) == 97u))) goto v119;
+    if (bswap32(at(u32_1, v75 + (i64)v124 + 24)) < 36u) { v167 = 0; goto v123; }
+    u16 v153 = at(u16_1, v75 + (i64)((u64)bswap32(at(u32_1, v75 + (i64)v124 + 20))) + 34);
+    u16 v155 = bswap16(v153);
+    if ((v153 == 0) | (v74 < v155)) { v167 = 0; goto v123; }
+    u64 v159 = (u64)v155;
+    v167 = (v117 < ((((u64)((u16)(v74 - v155))) << 1) + (v159 << 2))) ? 0 : v159; goto v123;
+v119:;
+    u64 v120 = v121 + 1;
+    if (v120 == v79) v167 = 0; else { v121 = v120; goto v118; }
+v123:;
+    memset(v8, 0, 6);
+    v171 = 0;
+v168:;
+    u64 v174 = v171 << 4;
+    if (!((((at(u8, v75 + (i64)v174 + 12) == 118u) & (at(u8, v75 + (i64)v174 + 13) == 109u)) & (at(u8, v75 + (i64)v174 + 14) == 116u)) & (at(u8, v75 + (i64)v174 + 15) == 120u))) goto v169;
+    v201 = v75 + (i64)((u64)bswap32(at(u32_1, v75 + (i64)v174 + 20))); v202 = (u64)bswap32(at(u32_1, v75 + (i64)v174 + 24)); goto v173;
+v169:;
+    u64 v170 = v171 + 1;
+    if (v170 == v79) { v201 = (u8 *)table_55ba7287; v202 = 0; } else { v171 = v170; goto v168; }
+v173:;
+    v206 = 0;
+v203:;
+    u64 v208 = v206 << 4;
+    if (!((((at(u8, v75 + (i64)v208 + 12) == 118u) & (at(u8, v75 + (i64)v208 + 13) == 104u)) & (at(u8, v75 + (i64)v208 + 14) == 101u)) & (at(u8, v75 + (i64)v208 + 15) == 97u))) goto v204;
+    if (bswap32(at(u32_1, v75 + (i64)v208 + 24)) < 36u) { v251 = v167; v252 = v116; v253 = v117; v254 = v202; v255 = v201; v256 = 0; goto v83; }
+    u16 v237 = at(u16_1, v75 + (i64)((u64)bswap32(at(u32_1, v75 + (i64)v208 + 20))) + 34);
+    u16 v239 = bswap16(v237);
+    if ((v237 == 0) | (v74 < v239)) { v251 = v167; v252 = v116; v253 = v117; v254 = v202; v255 = v201; v256 = 0; goto v83; }
+    u64 v243 = (u64)v239;
+    v251 = v167; v252 = v116; v253 = v117; v254 = v202; v255 = v201; v256 = (v202 < ((((u64)((u16)(v74 - v239))) << 1) + (v243 << 2))) ? 0 : v243; goto v83;
+v204:;
+    u64 v205 = v206 + 1;
+    if (v205 == v79) { v251 = v167; v252 = v116; v253 = v117; v254 = v202; v255 = v201; v256 = 0; } else { v206 = v205; goto v203; }
+v83:;
     memset(v6, 0, 80u);
     memset(v5, 0, 24u);
-    if (!(at(u8, v1 + 112) == 1)) goto v202;
-    u8 *v205 = at(ptr, v1 + 120);
-    font_subset_font_of_kind_FontOfKind_further_6e0a(v5, v205, 28u);
-    u8 *v208 = at(ptr, v5 + 8);
-    u64 v210 = at(u64, v5 + 16);
-    if (!(at(u8, v5) == 1)) goto v203;
+    if (!(at(u8, v1 + 112) == 1)) goto v260;
+    u8 *v263 = at(ptr, v1 + 120);
+    font_subset_font_of_kind_FontOfKind_further_6e0a(v5, v263, 28u);
+    u8 *v266 = at(ptr, v5 + 8);
+    u64 v268 = at(u64, v5 + 16);
+    if (!(at(u8, v5) == 1)) goto v261;
     memset(v3, 0, 24u);
-    font_subset_font_of_kind_FontOfKind_further_6e0a(v3, v205, 27u);
-    u8 v213 = at(u8, v3);
+    font_subset_font_of_kind_FontOfKind_further_6e0a(v3, v263, 27u);
+    u8 v271 = at(u8, v3);
     memcpy(v4 + 8, v3 + 8, 16u);
     memcpy(v7 + 8, v4 + 8, 16u);
-    at(u64, v7) = (u64)v213;
-    font_variations_gvar_Variations_open(v6, v208, v210, v7, v15);
-    if (!(at(u8, v6) == 1)) goto v221;
+    at(u64, v7) = (u64)v271;
+    font_variations_gvar_Variations_open(v6, v266, v268, v7, v74);
+    if (!(at(u8, v6) == 1)) goto v279;
     memcpy(v9, v6 + 8, 72u);
-    v224 = 1; goto v222;
-v221:;
-    __builtin_trap();
-    __builtin_trap();
-v202:;
-v203:;
+    v282 = 1; goto v280;
+v279:;
+    if (!(v53 == 1)) goto v288;
+    if (v64 == 0) goto v290;
+    sys_rattle_dealloc(v60);
+v290:;
+    if (v70 == 0) goto v288;
+    sys_rattle_dealloc(v66);
+v288:;
+    memset(v12, 0, 6);
+    memset(v13, 0, 6);
+    memset(v14, 0, 6);
+    memset(v15, 0, 72u);
+    v294 = 0; v295 = (u8 *)0; v296 = 0; v297 = 0; v298 = 0; v299 = (u8 *)0; v300 = 0; v301 = 0; v302 = 0; v303 = 0; v304 = 0; v305 = (u8 *)0; v306 = 0; v307 = 0; v308 = (u8 *)0; v309 = 0; v310 = 0; v311 = 0; goto v285;
+v260:;
+v261:;
     memset(v9, 0, 72u);
-    v224 = 0;
-v222:;
-    memcpy(v10, v8, 6);
-    memcpy(v11, v9, 72u);
-    at(ptr_1, v0) = v193;
-    at(u64_1, v0 + 8) = v194;
-    at(u64_1, v0 + 16) = v192;
-    at(u16_1, v0 + 24) = v15;
-    memcpy(v0 + 26, v10, 6);
-    at(ptr_1, v0 + 32) = v196;
-    at(u64_1, v0 + 40) = v195;
-    at(u64_1, v0 + 48) = v197;
-    at(u16_1, v0 + 56) = v15;
-    memset(v0 + 58, 0, 6);
-    at(u16_1, v0 + 64) = v15;
-    memset(v0 + 66, 0, 6);
-    at(u64_1, v0 + 72) = v224;
-    memcpy(v0 + 80, v11, 72u);
-    at(u16_1, v0 + 152) = v15;
-    memset(v0 + 154, 0, 6);
+    v282 = 0;
+v280:;
+    memcpy(v12, v8, 6);
+    memset(v13, 0, 6);
+    memset(v14, 0, 6);
+    memcpy(v15, v9, 72u);
+    v294 = 1; v295 = v252; v296 = v253; v297 = v251; v298 = v74; v299 = v255; v300 = v254; v301 = v256; v302 = ((u64)v51) << 48u; v303 = v71; v304 = v58; v305 = v60; v306 = v62; v307 = v64; v308 = v66; v309 = v68; v310 = v70; v311 = v282;
+v285:;
+    memcpy(v16, v12, 6);
+    memcpy(v17, v13, 6);
+    memcpy(v18, v14, 6);
+    memcpy(v19, v15, 72u);
+    v313 = v294; v314 = v295; v315 = v296; v316 = v297; v317 = v298; v318 = v299; v319 = v300; v320 = v301; v321 = v302; v322 = v303; v323 = v304; v324 = v305; v325 = v306; v326 = v307; v327 = v308; v328 = v309; v329 = v310; v330 = v311; goto v312;
+v56:;
+    memset(v16, 0, 6);
+    memset(v17, 0, 6);
+    memset(v18, 0, 6);
+    memset(v19, 0, 72u);
+    v313 = 0; v314 = (u8 *)0; v315 = 0; v316 = 0; v317 = 0; v318 = (u8 *)0; v319 = 0; v320 = 0; v321 = 0; v322 = 0; v323 = 0; v324 = (u8 *)0; v325 = 0; v326 = 0; v327 = (u8 *)0; v328 = 0; v329 = 0; v330 = 0;
+v312:;
+    memset(v20, 0, 6);
+    if (!v54) goto v332;
+    if (!v313) goto v334;
+    at(u8, v0) = 0;
+    at(ptr_1, v0 + 8) = v314;
+    at(u64_1, v0 + 16) = v315;
+    at(u64_1, v0 + 24) = v316;
+    at(u16_1, v0 + 32) = v317;
+    memcpy(v0 + 34, v16, 6);
+    at(ptr_1, v0 + 40) = v318;
+    at(u64_1, v0 + 48) = v319;
+    at(u64_1, v0 + 56) = v320;
+    at(u16_1, v0 + 64) = v317;
+    memcpy(v0 + 66, v17, 6);
+    at(u16_1, v0 + 72) = v317;
+    at(u64_1, v0 + 74) = v321;
+    memcpy(v0 + 82, v18, 6);
+    at(u64_1, v0 + 88) = v322;
+    at(u64_1, v0 + 96) = v323;
+    at(ptr_1, v0 + 104) = v324;
+    at(u64_1, v0 + 112) = v325;
+    at(u64_1, v0 + 120) = v326;
+    at(ptr_1, v0 + 128) = v327;
+    at(u64_1, v0 + 136) = v328;
+    at(u64_1, v0 + 144) = v329;
+    at(u64_1, v0 + 152) = v330;
+    memcpy(v0 + 160, v19, 72u);
+    at(u16_1, v0 + 232) = v317;
+    memcpy(v0 + 234, v20, 6);
+    return;
+v334:;
+    __builtin_trap();
+    __builtin_trap();
+v332:;
+    at(u8, v0) = 1;
+    memset(v0 + 8, 0, 232u);
     return;
 }
 
-void divided_tables_all_tables_OpenTables_of_ade9(u8 *v0, u8 *v1) {
-    _Alignas(8) u8 v3[24], v4[24], v5[80], v6[24], v8[72], v10[72];
-    _Alignas(2) u8 v7[6], v9[6];
-    u64 v25, v56, v73, v79, v125, v129, v158, v161, v176, v181, v226, v245, v261;
-    flag v54, v159;
-    u8 *v55, *v72, *v160, *v175, *v246;
-    memset(v9, 0, 6);
-    memset(v10, 0, 72u);
-    u8 *v12 = at(ptr, v1 + 8);
-    u16 v14 = at(u16, v12 + 64);
-    u8 *v15 = at(ptr_2, v12);
-    u16 v17 = at(u16_1, v15 + 4);
-    u64 v19 = (u64)bswap16(v17);
-    flag v20 = v17 == 0;
-    if (v20) { v54 = 0; v55 = (u8 *)0; v56 = 0; goto v21; }
-    v25 = 0;
-v22:;
-    u64 v27 = v25 << 4;
-    if (!((((at(u8, v15 + (i64)v27 + 12) == 104u) & (at(u8, v15 + (i64)v27 + 13) == 109u)) & (at(u8, v15 + (i64)v27 + 14) == 116u)) & (at(u8, v15 + (i64)v27 + 15) == 120u))) goto v23;
-    v54 = 1; v55 = v15 + (i64)((u64)bswap32(at(u32_1, v15 + (i64)v27 + 20))); v56 = (u64)bswap32(at(u32_1, v15 + (i64)v27 + 24)); goto v21;
-v23:;
-    u64 v24 = v25 + 1;
-    if (v24 == v19) { v54 = 0; v55 = (u8 *)0; v56 = 0; } else { v25 = v24; goto v22; }
-v21:;
-    flag v58 = at(u8, v1) == 0;
+void divided_tables_all_tables_OpenTables_of_3b65(u8 *v0, u8 *v1) {
+    _Alignas(8) u8 v3[24], v4[24], v5[80], v6[24], v8[72], v9[80], v10[24], v14[72], v18[72];
+    _Alignas(2) u8 v7[6], v11[6], v12[6], v13[6], v15[6], v16[6], v17[6], v19[6];
+    u8 *v29, v43, *v44, *v119, *v136, *v224, *v239, *v310, *v338, *v342, *v348, *v351, *v357, *v361, *v367, *v370;
+    u64 v30, v45, v89, v120, v137, v143, v189, v193, v222, v225, v240, v245, v290, v309, v325, v339, v340, v343, v344, v345, v346, v347, v349, v350, v352, v353, v354, v358, v359, v362, v363, v364, v365, v366, v368, v369, v371, v372, v373;
+    flag v118, v223, v337, v356;
+    u16 v341, v360;
+    memset(v15, 0, 6);
+    memset(v16, 0, 6);
+    memset(v17, 0, 6);
+    memset(v18, 0, 72u);
+    memset(v19, 0, 6);
+    memset(v9, 0, 80u);
+    memset(v11, 0, 6);
+    memset(v12, 0, 6);
+    u8 v21 = at(u8, v1 + 312);
+    if (!(v21 == 1)) { v29 = (u8 *)0; v30 = 0; goto v24; }
+    v29 = at(ptr, v1 + 320); v30 = at(u64, v1 + 328);
+v24:;
+    if (at(u8, v1) == 0) { v43 = v21; v44 = v29; v45 = v30; goto v33; }
+    u8 v36 = at(u8, v1 + 872);
+    if (!(v36 == 1)) { v43 = v36; v44 = (u8 *)0; v45 = 0; goto v33; }
+    v43 = 1; v44 = at(ptr, v1 + 880); v45 = at(u64, v1 + 888);
+v33:;
+    at(u64, v10) = (u64)v43;
+    at(ptr, v10 + 8) = v44;
+    at(u64, v10 + 16) = v45;
+    divided_tables_held_sequences_HeldSequences_open(v9, v10, at(u16, at(ptr, v1 + 8) + 64));
+    u16 v55 = at(u16, v9 + 8);
+    u8 v57 = at(u8, v9 + 16);
+    flag v58 = at(u8, v9) == 0;
     if (!v58) goto v60;
-    v72 = v54 ? v55 : (u8 *)table_d0e67785; v73 = v54 ? v56 : 0; goto v65;
-v60:;
-    if (!(at(u8, v1 + 672) == 1)) { v72 = (u8 *)table_d0e67785; v73 = 0; goto v65; }
-    v72 = at(ptr, v1 + 680); v73 = at(u64, v1 + 688);
-v65:;
-    if (!v20) { v79 = 0; goto v75; }
+    u64 v62 = at(u64, v9 + 24);
+    u8 *v64 = at(ptr, v9 + 32);
+    u64 v66 = at(u64, v9 + 40);
+    u64 v68 = at(u64, v9 + 48);
+    u8 *v70 = at(ptr, v9 + 56);
+    u64 v72 = at(u64, v9 + 64);
+    u64 v74 = at(u64, v9 + 72);
+    u64 v75 = (u64)v57;
+    u8 *v76 = at(ptr, v1 + 8);
+    u16 v78 = at(u16, v76 + 64);
+    u8 *v79 = at(ptr_2, v76);
+    u16 v81 = at(u16_1, v79 + 4);
+    u64 v83 = (u64)bswap16(v81);
+    flag v84 = v81 == 0;
+    if (v84) { v118 = 0; v119 = (u8 *)0; v120 = 0; goto v85; }
+    v89 = 0;
+v86:;
+    u64 v91 = v89 << 4;
+    if (!((((at(u8, v79 + (i64)v91 + 12) == 104u) & (at(u8, v79 + (i64)v91 + 13) == 109u)) & (at(u8, v79 + (i64)v91 + 14) == 116u)) & (at(u8, v79 + (i64)v91 + 15) == 120u))) goto v87;
+    v118 = 1; v119 = v79 + (i64)((u64)bswap32(at(u32_1, v79 + (i64)v91 + 20))); v120 = (u64)bswap32(at(u32_1, v79 + (i64)v91 + 24)); goto v85;
+v87:;
+    u64 v88 = v89 + 1;
+    if (v88 == v83) { v118 = 0; v119 = (u8 *)0; v120 = 0; } else { v89 = v88; goto v86; }
+v85:;
+    flag v122 = at(u8, v1) == 0;
+    if (!v122) goto v124;
+    v136 = v118 ? v119 : (u8 *)table_55ba7287; v137 = v118 ? v120 : 0; goto v129;
+v124:;
+    if (!(at(u8, v1 + 776) == 1)) { v136 = (u8 *)table_55ba7287; v137 = 0; goto v129; }
+    v136 = at(ptr, v1 + 784); v137 = at(u64, v1 + 792);
+v129:;
+    if (!v84) { v143 = 0; goto v139; }
     memset(v7, 0, 6);
-    v158 = 0; v159 = 0; v160 = (u8 *)0; v161 = 0; goto v76;
-v75:;
-    u64 v82 = v79 << 4;
-    if (!((((at(u8, v15 + (i64)v82 + 12) == 104u) & (at(u8, v15 + (i64)v82 + 13) == 104u)) & (at(u8, v15 + (i64)v82 + 14) == 101u)) & (at(u8, v15 + (i64)v82 + 15) == 97u))) goto v77;
-    if (bswap32(at(u32_1, v15 + (i64)v82 + 24)) < 36u) { v125 = 0; goto v81; }
-    u16 v111 = at(u16_1, v15 + (i64)((u64)bswap32(at(u32_1, v15 + (i64)v82 + 20))) + 34);
-    u16 v113 = bswap16(v111);
-    if ((v111 == 0) | (v14 < v113)) { v125 = 0; goto v81; }
-    u64 v117 = (u64)v113;
-    v125 = (v73 < ((((u64)((u16)(v14 - v113))) << 1) + (v117 << 2))) ? 0 : v117; goto v81;
-v77:;
-    u64 v78 = v79 + 1;
-    if (v78 == v19) v125 = 0; else { v79 = v78; goto v75; }
-v81:;
+    v222 = 0; v223 = 0; v224 = (u8 *)0; v225 = 0; goto v140;
+v139:;
+    u64 v146 = v143 << 4;
+    if (!((((at(u8, v79 + (i64)v146 + 12) == 104u) & (at(u8, v79 + (i64)v146 + 13) == 104u)) & (at(u8, v79 + (i64)v146 + 14) == 101u)) & (at(u8, v79 + (i64)v146 + 15) == 97u))) goto v141;
+    if (bswap32(at(u32_1, v79 + (i64)v146 + 24)) < 36u) { v189 = 0; goto v145; }
+    u16 v175 = at(u16_1, v79 + (i64)((u64)bswap32(at(u32_1, v79 + (i64)v146 + 20))) + 34);
+    u16 v177 = bswap16(v175);
+    if ((v175 == 0) | (v78 < v177)) { v189 = 0; goto v145; }
+    u64 v181 = (u64)v177;
+    v189 = (v137 < ((((u64)((u16)(v78 - v177))) << 1) + (v181 << 2))) ? 0 : v181; goto v145;
+v141:;
+    u64 v142 = v143 + 1;
+    if (v142 == v83) v189 = 0; else { v143 = v142; goto v139; }
+v145:;
     memset(v7, 0, 6);
-    v129 = 0;
-v126:;
-    u64 v131 = v129 << 4;
-    if (!((((at(u8, v15 + (i64)v131 + 12) == 118u) & (at(u8, v15 + (i64)v131 + 13) == 109u)) & (at(u8, v15 + (i64)v131 + 14) == 116u)) & (at(u8, v15 + (i64)v131 + 15) == 120u))) goto v127;
-    v158 = v125; v159 = 1; v160 = v15 + (i64)((u64)bswap32(at(u32_1, v15 + (i64)v131 + 20))); v161 = (u64)bswap32(at(u32_1, v15 + (i64)v131 + 24)); goto v76;
-v127:;
-    u64 v128 = v129 + 1;
-    if (v128 == v19) { v158 = v125; v159 = 0; v160 = (u8 *)0; v161 = 0; } else { v129 = v128; goto v126; }
-v76:;
-    if (!v58) goto v163;
-    v175 = v159 ? v160 : (u8 *)table_d0e67785; v176 = v159 ? v161 : 0; goto v168;
-v163:;
-    if (!(at(u8, v1 + 736) == 1)) { v175 = (u8 *)table_d0e67785; v176 = 0; goto v168; }
-    v175 = at(ptr, v1 + 744); v176 = at(u64, v1 + 752);
-v168:;
-    if (v20) { v226 = 0; goto v177; }
-    v181 = 0;
-v178:;
-    u64 v183 = v181 << 4;
-    if (!((((at(u8, v15 + (i64)v183 + 12) == 118u) & (at(u8, v15 + (i64)v183 + 13) == 104u)) & (at(u8, v15 + (i64)v183 + 14) == 101u)) & (at(u8, v15 + (i64)v183 + 15) == 97u))) goto v179;
-    if (bswap32(at(u32_1, v15 + (i64)v183 + 24)) < 36u) { v226 = 0; goto v177; }
-    u16 v212 = at(u16_1, v15 + (i64)((u64)bswap32(at(u32_1, v15 + (i64)v183 + 20))) + 34);
-    u16 v214 = bswap16(v212);
-    if ((v212 == 0) | (v14 < v214)) { v226 = 0; goto v177; }
-    u64 v218 = (u64)v214;
-    v226 = (v176 < ((((u64)((u16)(v14 - v214))) << 1) + (v218 << 2))) ? 0 : v218; goto v177;
-v179:;
-    u64 v180 = v181 + 1;
-    if (v180 == v19) v226 = 0; else { v181 = v180; goto v178; }
-v177:;
+    v193 = 0;
+v190:;
+    u64 v195 = v193 << 4;
+    if (!((((at(u8, v79 + (i64)v195 + 12) == 118u) & (at(u8, v79 + (i64)v195 + 13) == 109u)) & (at(u8, v79 + (i64)v195 + 14) == 116u)) & (at(u8, v79 + (i64)v195 + 15) == 120u))) goto v191;
+    v222 = v189; v223 = 1; v224 = v79 + (i64)((u64)bswap32(at(u32_1, v79 + (i64)v195 + 20))); v225 = (u64)bswap32(at(u32_1, v79 + (i64)v195 + 24)); goto v140;
+v191:;
+    u64 v192 = v193 + 1;
+    if (v192 == v83) { v222 = v189; v223 = 0; v224 = (u8 *)0; v225 = 0; } else { v193 = v192; goto v190; }
+v140:;
+    if (!v122) goto v227;
+    v239 = v223 ? v224 : (u8 *)table_55ba7287; v240 = v223 ? v225 : 0; goto v232;
+v227:;
+    if (!(at(u8, v1 + 840) == 1)) { v239 = (u8 *)table_55ba7287; v240 = 0; goto v232; }
+    v239 = at(ptr, v1 + 848); v240 = at(u64, v1 + 856);
+v232:;
+    if (v84) { v290 = 0; goto v241; }
+    v245 = 0;
+v242:;
+    u64 v247 = v245 << 4;
+    if (!((((at(u8, v79 + (i64)v247 + 12) == 118u) & (at(u8, v79 + (i64)v247 + 13) == 104u)) & (at(u8, v79 + (i64)v247 + 14) == 101u)) & (at(u8, v79 + (i64)v247 + 15) == 97u))) goto v243;
+    if (bswap32(at(u32_1, v79 + (i64)v247 + 24)) < 36u) { v290 = 0; goto v241; }
+    u16 v276 = at(u16_1, v79 + (i64)((u64)bswap32(at(u32_1, v79 + (i64)v247 + 20))) + 34);
+    u16 v278 = bswap16(v276);
+    if ((v276 == 0) | (v78 < v278)) { v290 = 0; goto v241; }
+    u64 v282 = (u64)v278;
+    v290 = (v240 < ((((u64)((u16)(v78 - v278))) << 1) + (v282 << 2))) ? 0 : v282; goto v241;
+v243:;
+    u64 v244 = v245 + 1;
+    if (v244 == v83) v290 = 0; else { v245 = v244; goto v242; }
+v241:;
     memset(v5, 0, 80u);
     memset(v4, 0, 24u);
     font_subset_font_of_kind_FontOfKind_further_6e0a(v4, v1, 28u);
-    u8 v227 = at(u8, v4);
-    u8 *v229 = at(ptr, v4 + 8);
-    u64 v231 = at(u64, v4 + 16);
-    if (!v58) goto v233;
-    if (v227 == 1) { v245 = v231; v246 = v229; goto v243; }
-    goto v238;
-v233:;
-    if (!(at(u8, v1 + 640) == 1)) goto v238;
-    v245 = at(u64, v1 + 656); v246 = at(ptr, v1 + 648);
-v243:;
+    u8 v291 = at(u8, v4);
+    u8 *v293 = at(ptr, v4 + 8);
+    u64 v295 = at(u64, v4 + 16);
+    if (!v122) goto v297;
+    if (v291 == 1) { v309 = v295; v310 = v293; goto v307; }
+    goto v302;
+v297:;
+    if (!(at(u8, v1 + 744) == 1)) goto v302;
+    v309 = at(u64, v1 + 760); v310 = at(ptr, v1 + 752);
+v307:;
     memset(v3, 0, 24u);
     font_subset_font_of_kind_FontOfKind_further_6e0a(v3, v1, 27u);
-    u8 *v249 = at(ptr, v3 + 8);
-    u64 v251 = at(u64, v3 + 16);
+    u8 *v313 = at(ptr, v3 + 8);
+    u64 v315 = at(u64, v3 + 16);
     at(u64, v6) = (u64)at(u8, v3);
-    at(ptr, v6 + 8) = v249;
-    at(u64, v6 + 16) = v251;
-    font_variations_gvar_Variations_open(v5, v246, v245, v6, v14);
-    if (!(at(u8, v5) == 1)) goto v258;
+    at(ptr, v6 + 8) = v313;
+    at(u64, v6 + 16) = v315;
+    font_variations_gvar_Variations_open(v5, v310, v309, v6, v78);
+    if (!(at(u8, v5) == 1)) goto v322;
     memcpy(v8, v5 + 8, 72u);
-    v261 = 1; goto v259;
-v258:;
-    __builtin_trap();
-    __builtin_trap();
-v238:;
+    v325 = 1; goto v323;
+v322:;
+    if (!(v57 == 1)) goto v331;
+    if (v68 == 0) goto v333;
+    sys_rattle_dealloc(v64);
+v333:;
+    if (v74 == 0) goto v331;
+    sys_rattle_dealloc(v70);
+v331:;
+    memset(v11, 0, 6);
+    memset(v12, 0, 6);
+    memset(v13, 0, 6);
+    memset(v14, 0, 72u);
+    v337 = 0; v338 = (u8 *)0; v339 = 0; v340 = 0; v341 = 0; v342 = (u8 *)0; v343 = 0; v344 = 0; v345 = 0; v346 = 0; v347 = 0; v348 = (u8 *)0; v349 = 0; v350 = 0; v351 = (u8 *)0; v352 = 0; v353 = 0; v354 = 0; goto v328;
+v302:;
     memset(v8, 0, 72u);
-    v261 = 0;
-v259:;
-    memcpy(v9, v7, 6);
-    memcpy(v10, v8, 72u);
-    at(ptr_1, v0) = v72;
-    at(u64_1, v0 + 8) = v73;
-    at(u64_1, v0 + 16) = v158;
-    at(u16_1, v0 + 24) = v14;
-    memcpy(v0 + 26, v9, 6);
-    at(ptr_1, v0 + 32) = v175;
-    at(u64_1, v0 + 40) = v176;
-    at(u64_1, v0 + 48) = v226;
-    at(u16_1, v0 + 56) = v14;
-    memset(v0 + 58, 0, 6);
-    at(u16_1, v0 + 64) = v14;
-    memset(v0 + 66, 0, 6);
-    at(u64_1, v0 + 72) = v261;
-    memcpy(v0 + 80, v10, 72u);
-    at(u16_1, v0 + 152) = v14;
-    memset(v0 + 154, 0, 6);
+    v325 = 0;
+v323:;
+    memcpy(v11, v7, 6);
+    memset(v12, 0, 6);
+    memset(v13, 0, 6);
+    memcpy(v14, v8, 72u);
+    v337 = 1; v338 = v136; v339 = v137; v340 = v222; v341 = v78; v342 = v239; v343 = v240; v344 = v290; v345 = ((u64)v55) << 48u; v346 = v75; v347 = v62; v348 = v64; v349 = v66; v350 = v68; v351 = v70; v352 = v72; v353 = v74; v354 = v325;
+v328:;
+    memcpy(v15, v11, 6);
+    memcpy(v16, v12, 6);
+    memcpy(v17, v13, 6);
+    memcpy(v18, v14, 72u);
+    v356 = v337; v357 = v338; v358 = v339; v359 = v340; v360 = v341; v361 = v342; v362 = v343; v363 = v344; v364 = v345; v365 = v346; v366 = v347; v367 = v348; v368 = v349; v369 = v350; v370 = v351; v371 = v352; v372 = v353; v373 = v354; goto v355;
+v60:;
+    memset(v15, 0, 6);
+    memset(v16, 0, 6);
+    memset(v17, 0, 6);
+    memset(v18, 0, 72u);
+    v356 = 0; v357 = (u8 *)0; v358 = 0; v359 = 0; v360 = 0; v361 = (u8 *)0; v362 = 0; v363 = 0; v364 = 0; v365 = 0; v366 = 0; v367 = (u8 *)0; v368 = 0; v369 = 0; v370 = (u8 *)0; v371 = 0; v372 = 0; v373 = 0;
+v355:;
+    memset(v19, 0, 6);
+    if (!v58) goto v375;
+    if (!v356) goto v377;
+    at(u8, v0) = 0;
+    at(ptr_1, v0 + 8) = v357;
+    at(u64_1, v0 + 16) = v358;
+    at(u64_1, v0 + 24) = v359;
+    at(u16_1, v0 + 32) = v360;
+    memcpy(v0 + 34, v15, 6);
+    at(ptr_1, v0 + 40) = v361;
+    at(u64_1, v0 + 48) = v362;
+    at(u64_1, v0 + 56) = v363;
+    at(u16_1, v0 + 64) = v360;
+    memcpy(v0 + 66, v16, 6);
+    at(u16_1, v0 + 72) = v360;
+    at(u64_1, v0 + 74) = v364;
+    memcpy(v0 + 82, v17, 6);
+    at(u64_1, v0 + 88) = v365;
+    at(u64_1, v0 + 96) = v366;
+    at(ptr_1, v0 + 104) = v367;
+    at(u64_1, v0 + 112) = v368;
+    at(u64_1, v0 + 120) = v369;
+    at(ptr_1, v0 + 128) = v370;
+    at(u64_1, v0 + 136) = v371;
+    at(u64_1, v0 + 144) = v372;
+    at(u64_1, v0 + 152) = v373;
+    memcpy(v0 + 160, v18, 72u);
+    at(u16_1, v0 + 232) = v360;
+    memcpy(v0 + 234, v19, 6);
+    return;
+v377:;
+    __builtin_trap();
+    __builtin_trap();
+v375:;
+    at(u8, v0) = 1;
+    memset(v0 + 8, 0, 232u);
     return;
 }
 
-void divided_tables_all_tables_OpenTables_open(u8 *v0, u8 *v1) {
-    _Alignas(8) u8 v3[24], v4[80], v5[24], v7[72];
-    _Alignas(2) u8 v6[6];
-    u64 v23, v54, v58, v104, v108, v139, v143, v189, v191, v192, v194, v209;
-    u8 *v53, *v138, *v190, *v193;
-    memset(v7, 0, 72u);
-    u8 *v9 = at(ptr, v1 + 8);
-    u16 v11 = at(u16, v9 + 64);
-    u8 *v12 = at(ptr_2, v9);
-    u16 v14 = at(u16_1, v12 + 4);
-    u64 v16 = (u64)bswap16(v14);
-    if (!(v14 == 0)) { v23 = 0; goto v19; }
-    memset(v6, 0, 6);
-    v189 = 0; v190 = (u8 *)table_d0e67785; v191 = 0; v192 = 0; v193 = (u8 *)table_d0e67785; v194 = 0; goto v20;
-v19:;
-    u64 v26 = v23 << 4;
-    if (!((((at(u8, v12 + (i64)v26 + 12) == 104u) & (at(u8, v12 + (i64)v26 + 13) == 109u)) & (at(u8, v12 + (i64)v26 + 14) == 116u)) & (at(u8, v12 + (i64)v26 + 15) == 120u))) goto v21;
-    v53 = v12 + (i64)((u64)bswap32(at(u32_1, v12 + (i64)v26 + 20))); v54 = (u64)bswap32(at(u32_1, v12 + (i64)v26 + 24)); goto v25;
-v21:;
-    u64 v22 = v23 + 1;
-    if (v22 == v16) { v53 = (u8 *)table_d0e67785; v54 = 0; } else { v23 = v22; goto v19; }
-v25:;
-    v58 = 0;
-v55:;
-    u64 v61 = v58 << 4;
-    if (!((((at(u8, v12 + (i64)v61 + 12) == 104u) & (at(u8, v12 + (i64)v61 + 13) == 104u)) & (at(u8, v12 + (i64)v61 + 14) == 101u)) & (at(u8, v12 + (i64)v61 + 15) == 97u))) goto v56;
-    if (bswap32(at(u32_1, v12 + (i64)v61 + 24)) < 36u) { v104 = 0; goto v60; }
-    u16 v90 = at(u16_1, v12 + (i64)((u64)bswap32(at(u32_1, v12 + (i64)v61 + 20))) + 34);
-    u16 v92 = bswap16(v90);
-    if ((v90 == 0) | (v11 < v92)) { v104 = 0; goto v60; }
-    u64 v96 = (u64)v92;
-    v104 = (v54 < ((((u64)((u16)(v11 - v92))) << 1) + (v96 << 2))) ? 0 : v96; goto v60;
-v56:;
-    u64 v57 = v58 + 1;
-    if (v57 == v16) v104 = 0; else { v58 = v57; goto v55; }
-v60:;
-    memset(v6, 0, 6);
-    v108 = 0;
-v105:;
-    u64 v111 = v108 << 4;
-    if (!((((at(u8, v12 + (i64)v111 + 12) == 118u) & (at(u8, v12 + (i64)v111 + 13) == 109u)) & (at(u8, v12 + (i64)v111 + 14) == 116u)) & (at(u8, v12 + (i64)v111 + 15) == 120u))) goto v106;
-    v138 = v12 + (i64)((u64)bswap32(at(u32_1, v12 + (i64)v111 + 20))); v139 = (u64)bswap32(at(u32_1, v12 + (i64)v111 + 24)); goto v110;
-v106:;
-    u64 v107 = v108 + 1;
-    if (v107 == v16) { v138 = (u8 *)table_d0e67785; v139 = 0; } else { v108 = v107; goto v105; }
-v110:;
-    v143 = 0;
-v140:;
-    u64 v145 = v143 << 4;
-    if (!((((at(u8, v12 + (i64)v145 + 12) == 118u) & (at(u8, v12 + (i64)v145 + 13) == 104u)) & (at(u8, v12 + (i64)v145 + 14) == 101u)) & (at(u8, v12 + (i64)v145 + 15) == 97u))) goto v141;
-    if (bswap32(at(u32_1, v12 + (i64)v145 + 24)) < 36u) { v189 = v104; v190 = v53; v191 = v54; v192 = v139; v193 = v138; v194 = 0; goto v20; }
-    u16 v174 = at(u16_1, v12 + (i64)((u64)bswap32(at(u32_1, v12 + (i64)v145 + 20))) + 34);
-    u16 v176 = bswap16(v174);
-    if ((v174 == 0) | (v11 < v176)) { v189 = v104; v190 = v53; v191 = v54; v192 = v139; v193 = v138; v194 = 0; goto v20; }
-    u64 v180 = (u64)v176;
-    v189 = v104; v190 = v53; v191 = v54; v192 = v139; v193 = v138; v194 = (v139 < ((((u64)((u16)(v11 - v176))) << 1) + (v180 << 2))) ? 0 : v180; goto v20;
-v141:;
-    u64 v142 = v143 + 1;
-    if (v142 == v16) { v189 = v104; v190 = v53; v191 = v54; v192 = v139; v193 = v138; v194 = 0; } else { v143 = v142; goto v140; }
-v20:;
-    memset(v3, 0, 24u);
-    memset(v4, 0, 80u);
-    memset(v5, 0, 24u);
-    font_subset_further_tables_FurtherTablesTablesBySlot_table_1234(v3, v1, 28u);
-    if (!(at(u8, v3) == 1)) goto v198;
-    u8 *v200 = at(ptr, v3 + 8);
-    u64 v202 = at(u64, v3 + 16);
-    font_subset_further_tables_FurtherTablesTablesBySlot_table_1234(v5, v1, 27u);
-    font_variations_gvar_Variations_open(v4, v200, v202, v5, v11);
-    if (!(at(u8, v4) == 1)) goto v206;
-    memcpy(v7, v4 + 8, 72u);
-    v209 = 1; goto v207;
-v206:;
-    memset(v0, 0, 168u);
+static void divided_tables_all_tables_OpenTables_with(u8 *v0, u8 *v1, u8 *v2) {
+    _Alignas(8) u8 v4[24], v5[80], v6[24], v25[40], v26[40], v27[72], v28[64];
+    u64 v74;
+    u16 v7 = at(u16_1, v2);
+    u8 v9 = at(u8, v2 + 8);
+    u64 v10 = (u64)v9;
+    u64 v12 = at(u64_1, v2 + 16);
+    u8 *v14 = at(ptr_1, v2 + 24);
+    u64 v16 = at(u64_1, v2 + 32);
+    u64 v18 = at(u64_1, v2 + 40);
+    u8 *v20 = at(ptr_1, v2 + 48);
+    u64 v22 = at(u64_1, v2 + 56);
+    u64 v24 = at(u64_1, v2 + 64);
+    memset(v25, 0, 40u);
+    memset(v26, 0, 40u);
+    memset(v27, 0, 72u);
+    memset(v28, 0, 64u);
+    divided_tables_metrics_MetricsOpenFrom_open_543f(v25, v1);
+    if (!(at(u8, v25) == 1)) goto v32;
+    divided_tables_metrics_MetricsOpenFrom_open_5adc(v26, v1);
+    if (!(at(u8, v26) == 1)) goto v37;
+    u16 v51 = at(u16, at(ptr, v1 + 8) + 64);
+    memset(v4, 0, 24u);
+    memset(v5, 0, 80u);
+    memset(v6, 0, 24u);
+    font_subset_further_tables_FurtherTablesTablesBySlot_table_1234(v4, v1, 28u);
+    if (!(at(u8, v4) == 1)) goto v55;
+    u8 *v57 = at(ptr, v4 + 8);
+    u64 v59 = at(u64, v4 + 16);
+    font_subset_further_tables_FurtherTablesTablesBySlot_table_1234(v6, v1, 27u);
+    font_variations_gvar_Variations_open(v5, v57, v59, v6, v51);
+    if (!(at(u8, v5) == 1)) goto v63;
+    memcpy(v27, v5 + 8, 72u);
+    v74 = 1; goto v64;
+v63:;
+    if (!(v9 == 1)) goto v96;
+    if (v18 == 0) goto v98;
+    sys_rattle_dealloc(v14);
+v98:;
+    if (v24 == 0) goto v96;
+    sys_rattle_dealloc(v20);
+v96:;
+    memset(v0, 0, 240u);
     return;
-v198:;
-    memset(v7, 0, 72u);
-    v209 = 0;
-v207:;
+v55:;
+    memset(v27, 0, 72u);
+    v74 = 0;
+v64:;
+    memcpy(v28, v25 + 8, 32u);
+    memcpy(v28 + 32, v26 + 8, 32u);
     at(u64_1, v0) = 1;
-    at(ptr_1, v0 + 8) = v190;
-    at(u64_1, v0 + 16) = v191;
-    at(u64_1, v0 + 24) = v189;
-    at(u16_1, v0 + 32) = v11;
-    memcpy(v0 + 34, v6, 6);
-    at(ptr_1, v0 + 40) = v193;
-    at(u64_1, v0 + 48) = v192;
-    at(u64_1, v0 + 56) = v194;
-    at(u16_1, v0 + 64) = v11;
-    memset(v0 + 66, 0, 6);
-    at(u16_1, v0 + 72) = v11;
-    memset(v0 + 74, 0, 6);
-    at(u64_1, v0 + 80) = v209;
-    memcpy(v0 + 88, v7, 72u);
-    at(u16_1, v0 + 160) = v11;
-    memset(v0 + 162, 0, 6);
+    memcpy(v0 + 8, v28, 64u);
+    at(u16_1, v0 + 72) = v51;
+    at(u64_1, v0 + 74) = ((u64)v7) << 48u;
+    memset(v0 + 82, 0, 6);
+    at(u64_1, v0 + 88) = v10;
+    at(u64_1, v0 + 96) = v12;
+    at(ptr_1, v0 + 104) = v14;
+    at(u64_1, v0 + 112) = v16;
+    at(u64_1, v0 + 120) = v18;
+    at(ptr_1, v0 + 128) = v20;
+    at(u64_1, v0 + 136) = v22;
+    at(u64_1, v0 + 144) = v24;
+    at(u64_1, v0 + 152) = v74;
+    memcpy(v0 + 160, v27, 72u);
+    at(u16_1, v0 + 232) = v51;
+    memset(v0 + 234, 0, 6);
+    return;
+v37:;
+    if (!(v9 == 1)) goto v68;
+    if (v18 == 0) goto v70;
+    sys_rattle_dealloc(v14);
+v70:;
+    if (v24 == 0) goto v68;
+    sys_rattle_dealloc(v20);
+v68:;
+    memset(v0, 0, 240u);
+    return;
+v32:;
+    if (!(v9 == 1)) goto v41;
+    if (v18 == 0) goto v43;
+    sys_rattle_dealloc(v14);
+v43:;
+    if (v24 == 0) goto v41;
+    sys_rattle_dealloc(v20);
+v41:;
+    memset(v0, 0, 240u);
     return;
 }
 
@@ -629,7 +823,52 @@ v50:;
     v51 = v52; goto v50;
 }
 
-void divided_tables_glyph_variations_with_data(u8 *v0, u8 *v1, u8 *v2, u64 v3) {
+static void divided_tables_glyph_variations_GlyphVariationsPartedTable_frame(u8 *v0, u8 *v1) {
+    _Alignas(8) u8 v3[1], v4[32], v5[24];
+    u8 v6[24];
+    u64 v30;
+    u8 v7 = at(u8, v1);
+    if (!(v7 == 0)) goto v10;
+    memset(v5, 0, 24u);
+    goto v11;
+v10:;
+    memset(v4, 0, 32u);
+    u16 v14 = at(u16, v1 + 74);
+    u64 v15 = (u64)v14;
+    if (!(v14 == 0)) goto v18;
+    divided_tables_glyph_variations_with_data(v4, v1 + 8, v3, v15);
+    goto v19;
+v18:;
+    u64_u64 v22 = sys_rattle_alloc(v15 << 4, 8);
+    if (!(v22._0 & 1)) goto v26;
+    u8 *v28 = (u8 *)v22._1;
+    v30 = 0;
+v29:;
+    u64 v32 = v30 << 4;
+    at(ptr_1, v28 + v32) = (u8 *)table_55ba7287;
+    at(u64_1, v28 + v32 + 8) = 0;
+    u64 v31 = v30 + 1;
+    if (!(v31 == v15)) { v30 = v31; goto v29; }
+    divided_tables_glyph_variations_with_data(v4, v1 + 8, v28, v15);
+    sys_rattle_dealloc(v28);
+v19:;
+    u8 v38 = at(u8, v4);
+    memcpy(v6, v4 + 8, 24u);
+    if (!(v38 == 0)) goto v37;
+    memcpy(v5, v6, 24u);
+v11:;
+    at(u8, v0) = 0;
+    at(u64_1, v0 + 8) = (u64)v7;
+    memcpy(v0 + 16, v5, 24u);
+    return;
+v26:;
+v37:;
+    at(u8, v0) = 1;
+    memset(v0 + 8, 0, 32u);
+    return;
+}
+
+static void divided_tables_glyph_variations_with_data(u8 *v0, u8 *v1, u8 *v2, u64 v3) {
     u8 v5[1], v7[31], v8[31], *v87, *v88, *v95, *v99, *v100, *v129, *v144, *v158, *v219;
     _Alignas(8) u8 v6[24];
     u64 v26, v44, v45, v47, v49, v56, v101, v102, v113, v130, v131, v145, v146, v159, v160, v172, v173, v179, v182, v186, v183, v197, v208, v209, v223, v224, v237, v238, v262, v273, v276, v284, v286, v301, v304, v306, v305, v323, v346, v356, v359, v367, v369;
@@ -882,6 +1121,324 @@ v69:;
     memset(v7 + 7, 0, 24u);
     at(u8, v0) = 1;
     memset(v0 + 8, 0, 24u);
+    return;
+}
+
+void divided_tables_held_sequences_HeldSequencesPartedTable_united(u8 *v0, u8 *v1, u8 *v2, u8 *v3) {
+    _Alignas(4) u8 v5[1], v8[16];
+    _Alignas(8) u8 v6[24], v7[40], v9[24], v10[24], v11[32], v12[24], v13[8], v14[24];
+    u8 v34, *v59, *v73, *v74, *v105, v118, v120, v122;
+    u64 v76, v86, v104, v106, v119, v121, v123;
+    memset(v14, 0, 24u);
+    if (!(at(u8, v1 + 8) == 1)) { v122 = 0; v123 = 0; goto v19; }
+    if (!(at(u8, v2 + 8) == 1)) { v122 = 0; v123 = 0; goto v19; }
+    memset(v12, 0, 24u);
+    if (at(u8, v3) == 0) { v34 = at(u8, v3 + 312); goto v28; }
+    u8 v31 = at(u8, v3 + 872);
+    if (v31 == 1) goto v33;
+    v34 = v31;
+v28:;
+    if (v34 == 0) { v120 = 0; v121 = 0; goto v36; }
+v33:;
+    at(ptr, v13) = v3;
+    u8 *v38 = at(ptr, v1 + 24);
+    u64 v40 = at(u64, v1 + 32);
+    u8 *v42 = at(ptr, v2 + 24);
+    u64 v44 = at(u64, v2 + 32);
+    memset(v9, 0, 24u);
+    memset(v10, 0, 24u);
+    memset(v11, 0, 32u);
+    memset(v8, 0, 16u);
+    if (v40 == 0) { v59 = v5; goto v46; }
+    if (!(v40 < 0xaaaaaaaaaaaaaabu)) goto v50;
+    u64_u64 v53 = sys_rattle_alloc(v40 * 12u, 4);
+    if (!(v53._0 & 1)) goto v50;
+    v59 = (u8 *)v53._1;
+v46:;
+    at(ptr, v6) = v59;
+    at(u64, v6 + 8) = 0;
+    at(u64, v6 + 16) = v40;
+    at(ptr, v7) = v13;
+    at(ptr, v7 + 8) = v38;
+    at(u64, v7 + 16) = v40;
+    at(ptr, v7 + 24) = v42;
+    at(u64, v7 + 32) = v44;
+    divided_tables_sequence_union_UnionPairsIterator_next_73ab(v8, v7);
+    if (!(at(u8, v8) == 1)) goto v69;
+    v73 = v59; v76 = 0;
+v72:;
+    if (!(at(u64, v6 + 16) == v76)) { v74 = v73; v86 = v76; goto v75; }
+    if (!std_alloc_vec_Vec_grow_amortized_5986(v6)) goto v83;
+    v74 = at(ptr, v6); v86 = at(u64, v6 + 8); goto v75;
+v83:;
+    if (at(u64, v6 + 16) == 0) goto v50;
+    sys_rattle_dealloc(at(ptr, v6));
+    goto v50;
+v75:;
+    memmove(v74 + (v86 * 12u), v8 + 4, 12u);
+    u64 v77 = v86 + 1;
+    at(u64, v6 + 8) = v77;
+    divided_tables_sequence_union_UnionPairsIterator_next_73ab(v8, v7);
+    if (at(u8, v8) == 1) { v73 = v74; v76 = v77; goto v72; }
+    u8 *v96 = at(ptr, v6);
+    u64 v97 = at(u64, v6 + 16);
+    if (!(v77 > 1048576u)) { v104 = v77; v105 = v96; v106 = v97; goto v70; }
+    if (v97 == 0) goto v102;
+    sys_rattle_dealloc(v96);
+v102:;
+    memcpy(v12, v10, 24u);
+    v118 = 0; v119 = 0; goto v100;
+v69:;
+    v104 = 0; v105 = v59; v106 = v40;
+v70:;
+    divided_tables_sequence_tables_table_of_a10e(v11, v105, v104);
+    if (!(at(u8, v11) == 0)) goto v110;
+    memcpy(v9, v11 + 8, 24u);
+    if (v106 == 0) goto v113;
+    sys_rattle_dealloc(v105);
+v113:;
+    memcpy(v12, v9, 24u);
+    v118 = 0; v119 = 1; goto v100;
+v110:;
+    memset(v9, 0, 24u);
+    if (v106 == 0) goto v116;
+    sys_rattle_dealloc(v105);
+v116:;
+    memcpy(v12, v9, 24u);
+    v118 = 1; v119 = 0; goto v100;
+v50:;
+    memset(v12, 0, 24u);
+    v118 = 1; v119 = 0;
+v100:;
+    v120 = v118; v121 = v119;
+v36:;
+    memcpy(v14, v12, 24u);
+    v122 = v120; v123 = v121;
+v19:;
+    at(u8, v0) = v122;
+    at(u64_1, v0 + 8) = v123;
+    memcpy(v0 + 16, v14, 24u);
+    return;
+}
+
+static void divided_tables_held_sequences_HeldSequences_open(u8 *v0, u8 *v1, u16 v2) {
+    _Alignas(8) u8 v4[1], v5[24], v6[24], v8[24], v9[88], v19[24], v21[24];
+    u8 v7[31], v11[31], *v72, *v96, *v73, *v136, *v137, *v117, *v120, *v176, *v185;
+    _Alignas(4) u8 v10[16];
+    _Alignas(2) u8 v12[6], v18[6], v20[6];
+    u64 v75, v97, v76, v139, v141, v165, v116, v119, v174, v175, v186, v187, v188;
+    u16 v184;
+    u8 *v15 = at(ptr_1, v1 + 8);
+    u64 v17 = at(u64_1, v1 + 16);
+    u8 v13 = at(u8, v1);
+    memset(v18, 0, 6);
+    memset(v19, 0, 24u);
+    memset(v20, 0, 6);
+    memset(v21, 0, 24u);
+    if (!(v13 == 0)) goto v24;
+    memset(v19, 0, 24u);
+    v184 = 0; v185 = (u8 *)0; v186 = 0; v187 = 0; v188 = 0; goto v25;
+v24:;
+    memset(v11, 0, 31u);
+    memset(v12, 0, 6);
+    if (!(v17 > 9)) { v116 = 0; v117 = v4; goto v28; }
+    if (!(at(u16_1, v15) == 3584u)) { v116 = 0; v117 = v4; goto v28; }
+    if (!(v17 == ((u64)bswap32(at(u32_1, v15 + 2))))) { v116 = 0; v117 = v4; goto v28; }
+    if (!variation_sequences_strict_is_strict(v15, v17)) { v116 = 0; v117 = v4; goto v28; }
+    u64 v42 = (u64)(((u32)v17) / 5);
+    memset(v10, 0, 16u);
+    u64_u64 v45 = sys_rattle_alloc(v42 * 12u, 4);
+    if (!(v45._0 & 1)) goto v49;
+    u8 *v51 = (u8 *)v45._1;
+    at(ptr, v8) = v51;
+    at(u64, v8 + 8) = 0;
+    at(u64, v8 + 16) = v42;
+    at(ptr, v9) = v15;
+    at(u64, v9 + 8) = v17;
+    at(u32, v9 + 16) = 0;
+    at(u32, v9 + 20) = 0;
+    at(ptr, v9 + 24) = (u8 *)table_18327a07;
+    at(u64, v9 + 32) = 4;
+    at(ptr, v9 + 40) = (u8 *)table_18327a07;
+    at(u64, v9 + 48) = 4;
+    at(u32, v9 + 56) = 1114112u;
+    memset(v9 + 60, 0, 28u);
+    variation_sequences_entries_EntriesIterator_next(v10, v9);
+    if (!(at(u8, v10) == 1)) goto v66;
+    v72 = v51; v75 = 0;
+v71:;
+    u32 v77 = at(u32, v10 + 4);
+    u32 v78 = at(u32, v10 + 8);
+    u16 v80 = at(u16, v10 + 14);
+    if ((at(u8, v10 + 12) == 0) ? 1 : ((v80 >= v2) | (v80 == 0))) { v73 = v72; v76 = v75; goto v74; }
+    if (!(at(u64, v8 + 16) == v75)) { v96 = v72; v97 = v75; goto v90; }
+    if (!std_alloc_vec_Vec_grow_amortized_5986(v8)) goto v93;
+    v96 = at(ptr, v8); v97 = at(u64, v8 + 8); goto v90;
+v93:;
+    if (at(u64, v8 + 16) == 0) goto v49;
+    sys_rattle_dealloc(at(ptr, v8));
+    goto v49;
+v90:;
+    u64 v98 = v97 * 12u;
+    at(u32_1, v96 + v98) = v77;
+    at(u32_1, v96 + v98 + 4) = v78;
+    at(u16_1, v96 + v98 + 8) = v80;
+    at(u16_1, v96 + v98 + 10) = 0;
+    u64 v103 = v97 + 1;
+    at(u64, v8 + 8) = v103;
+    v73 = v96; v76 = v103;
+v74:;
+    variation_sequences_entries_EntriesIterator_next(v10, v9);
+    if (at(u8, v10) == 1) { v72 = v73; v75 = v76; goto v71; }
+    u8 *v111 = at(ptr, v8);
+    u64 v112 = at(u64, v8 + 16);
+    memset(v5, 0, 24u);
+    if (v76 == 0) { v119 = v112; v120 = v111; goto v114; }
+    if (!(v76 < 0x1000000000000000u)) goto v124;
+    u64_u64 v127 = sys_rattle_alloc(v76 << 3, 8);
+    if (!(v127._0 & 1)) goto v124;
+    u8 *v132 = (u8 *)v127._1;
+    at(ptr, v5) = v132;
+    at(u64, v5 + 8) = 0;
+    at(u64, v5 + 16) = v76;
+    v136 = v132; v139 = 0; v141 = 0;
+v135:;
+    u64 v143 = v141 * 12u;
+    u64 v156 = ((((u64)at(u32_1, v111 + (i64)v143)) * 1114112u) + ((u64)at(u32_1, v111 + (i64)v143 + 4))) + (((u64)at(u16_1, v111 + (i64)v143 + 8)) * 0x12100000000u);
+    if (!(at(u64, v5 + 16) == v139)) { v137 = v136; v165 = v139; goto v138; }
+    if (!std_alloc_vec_Vec_grow_amortized_483f(v5)) goto v162;
+    v137 = at(ptr, v5); v165 = at(u64, v5 + 8); goto v138;
+v162:;
+    if (at(u64, v5 + 16) == 0) goto v124;
+    sys_rattle_dealloc(at(ptr, v5));
+    goto v124;
+v138:;
+    at(u64, v137 + (v165 << 3)) = v156;
+    u64 v140 = v165 + 1;
+    at(u64, v5 + 8) = v140;
+    u64 v142 = v141 + 1;
+    if (v142 == v76) { v174 = v112; v175 = v76; v176 = v111; goto v121; }
+    v136 = v137; v139 = v140; v141 = v142; goto v135;
+v124:;
+    if (v112 == 0) goto v173;
+    sys_rattle_dealloc(v111);
+    goto v173;
+v66:;
+    v116 = v42; v117 = v51; goto v28;
+v49:;
+v173:;
+    at(u8, v0) = 1;
+    at(u16_1, v0 + 8) = 0;
+    memset(v0 + 16, 0, 64u);
+    return;
+v28:;
+    memset(v5 + 8, 0, 16u);
+    v119 = v116; v120 = v117;
+v114:;
+    at(ptr, v5) = v4;
+    v174 = v119; v175 = 0; v176 = v120;
+v121:;
+    memcpy(v7 + 7, v5, 24u);
+    memcpy(v6, v7 + 7, 24u);
+    std_alloc_vec_Vec_sort_unstable(v6);
+    memcpy(v11 + 7, v7 + 7, 24u);
+    memcpy(v20, v12, 6);
+    memcpy(v21, v11 + 7, 24u);
+    memcpy(v18, v20, 6);
+    memcpy(v19, v21, 24u);
+    v184 = v2; v185 = v176; v186 = v175; v187 = v174; v188 = 1;
+v25:;
+    at(u8, v0) = 0;
+    at(u16_1, v0 + 8) = v2;
+    at(u64_1, v0 + 16) = v188;
+    at(u16_1, v0 + 24) = v184;
+    memcpy(v0 + 26, v18, 6);
+    at(ptr_1, v0 + 32) = v185;
+    at(u64_1, v0 + 40) = v186;
+    at(u64_1, v0 + 48) = v187;
+    memcpy(v0 + 56, v19, 24u);
+    return;
+}
+
+static void divided_tables_metrics_MetricsOpenFrom_open_543f(u8 *v0, u8 *v1) {
+    u64 v17, v48, v52, v97, v99;
+    u8 *v47, *v98;
+    u8 *v4 = at(ptr, v1 + 8);
+    u16 v6 = at(u16, v4 + 64);
+    u8 *v7 = at(ptr_2, v4);
+    u16 v9 = at(u16_1, v7 + 4);
+    u64 v11 = (u64)bswap16(v9);
+    if (v9 == 0) { v97 = 0; v98 = (u8 *)table_55ba7287; v99 = 0; goto v13; }
+    v17 = 0;
+v14:;
+    u64 v20 = v17 << 4;
+    if (!((((at(u8, v7 + (i64)v20 + 12) == 104u) & (at(u8, v7 + (i64)v20 + 13) == 109u)) & (at(u8, v7 + (i64)v20 + 14) == 116u)) & (at(u8, v7 + (i64)v20 + 15) == 120u))) goto v15;
+    v47 = v7 + (i64)((u64)bswap32(at(u32_1, v7 + (i64)v20 + 20))); v48 = (u64)bswap32(at(u32_1, v7 + (i64)v20 + 24)); goto v19;
+v15:;
+    u64 v16 = v17 + 1;
+    if (v16 == v11) { v47 = (u8 *)table_55ba7287; v48 = 0; } else { v17 = v16; goto v14; }
+v19:;
+    v52 = 0;
+v49:;
+    u64 v54 = v52 << 4;
+    if (!((((at(u8, v7 + (i64)v54 + 12) == 104u) & (at(u8, v7 + (i64)v54 + 13) == 104u)) & (at(u8, v7 + (i64)v54 + 14) == 101u)) & (at(u8, v7 + (i64)v54 + 15) == 97u))) goto v50;
+    if (bswap32(at(u32_1, v7 + (i64)v54 + 24)) < 36u) { v97 = v48; v98 = v47; v99 = 0; goto v13; }
+    u16 v83 = at(u16_1, v7 + (i64)((u64)bswap32(at(u32_1, v7 + (i64)v54 + 20))) + 34);
+    u16 v85 = bswap16(v83);
+    if ((v83 == 0) | (v6 < v85)) { v97 = v48; v98 = v47; v99 = 0; goto v13; }
+    u64 v89 = (u64)v85;
+    v97 = v48; v98 = v47; v99 = (v48 < ((((u64)((u16)(v6 - v85))) << 1) + (v89 << 2))) ? 0 : v89; goto v13;
+v50:;
+    u64 v51 = v52 + 1;
+    if (v51 == v11) { v97 = v48; v98 = v47; v99 = 0; } else { v52 = v51; goto v49; }
+v13:;
+    at(u64_1, v0) = 1;
+    at(ptr_1, v0 + 8) = v98;
+    at(u64_1, v0 + 16) = v97;
+    at(u64_1, v0 + 24) = v99;
+    at(u16_1, v0 + 32) = v6;
+    memset(v0 + 34, 0, 6);
+    return;
+}
+
+static void divided_tables_metrics_MetricsOpenFrom_open_5adc(u8 *v0, u8 *v1) {
+    u64 v17, v48, v52, v97, v99;
+    u8 *v47, *v98;
+    u8 *v4 = at(ptr, v1 + 8);
+    u16 v6 = at(u16, v4 + 64);
+    u8 *v7 = at(ptr_2, v4);
+    u16 v9 = at(u16_1, v7 + 4);
+    u64 v11 = (u64)bswap16(v9);
+    if (v9 == 0) { v97 = 0; v98 = (u8 *)table_55ba7287; v99 = 0; goto v13; }
+    v17 = 0;
+v14:;
+    u64 v20 = v17 << 4;
+    if (!((((at(u8, v7 + (i64)v20 + 12) == 118u) & (at(u8, v7 + (i64)v20 + 13) == 109u)) & (at(u8, v7 + (i64)v20 + 14) == 116u)) & (at(u8, v7 + (i64)v20 + 15) == 120u))) goto v15;
+    v47 = v7 + (i64)((u64)bswap32(at(u32_1, v7 + (i64)v20 + 20))); v48 = (u64)bswap32(at(u32_1, v7 + (i64)v20 + 24)); goto v19;
+v15:;
+    u64 v16 = v17 + 1;
+    if (v16 == v11) { v47 = (u8 *)table_55ba7287; v48 = 0; } else { v17 = v16; goto v14; }
+v19:;
+    v52 = 0;
+v49:;
+    u64 v54 = v52 << 4;
+    if (!((((at(u8, v7 + (i64)v54 + 12) == 118u) & (at(u8, v7 + (i64)v54 + 13) == 104u)) & (at(u8, v7 + (i64)v54 + 14) == 101u)) & (at(u8, v7 + (i64)v54 + 15) == 97u))) goto v50;
+    if (bswap32(at(u32_1, v7 + (i64)v54 + 24)) < 36u) { v97 = v48; v98 = v47; v99 = 0; goto v13; }
+    u16 v83 = at(u16_1, v7 + (i64)((u64)bswap32(at(u32_1, v7 + (i64)v54 + 20))) + 34);
+    u16 v85 = bswap16(v83);
+    if ((v83 == 0) | (v6 < v85)) { v97 = v48; v98 = v47; v99 = 0; goto v13; }
+    u64 v89 = (u64)v85;
+    v97 = v48; v98 = v47; v99 = (v48 < ((((u64)((u16)(v6 - v85))) << 1) + (v89 << 2))) ? 0 : v89; goto v13;
+v50:;
+    u64 v51 = v52 + 1;
+    if (v51 == v11) { v97 = v48; v98 = v47; v99 = 0; } else { v52 = v51; goto v49; }
+v13:;
+    at(u64_1, v0) = 1;
+    at(ptr_1, v0 + 8) = v98;
+    at(u64_1, v0 + 16) = v97;
+    at(u64_1, v0 + 24) = v99;
+    at(u16_1, v0 + 32) = v6;
+    memset(v0 + 34, 0, 6);
     return;
 }
 
@@ -1194,6 +1751,360 @@ v20:;
 v55:;
     at(u8, v0) = 1;
     memset(v0 + 8, 0, 32u);
+    return;
+}
+
+static void divided_tables_sequence_tables_table_of_a10e(u8 *v0, u8 *v1, u64 v2) {
+    u8 v4[1], *v18, *v41, *v83, *v84, *v92, *v93, *v95, *v132, *v142, *v196, *v210, *v222, *v231, *v260, *v267, *v296, *v268, *v223, v321, *v322;
+    _Alignas(8) u8 v5[24];
+    u64 v13, v16, v22, v32, v33, v39, v45, v55, v56, v85, v94, v96, v97, v114, v115, v133, v134, v145, v151, v162, v163, v180, v181, v197, v198, v211, v212, v225, v227, v229, v235, v246, v247, v261, v262, v270, v272, v274, v297, v298, v273, v312, v226, v228, v323, v324;
+    u32 v36, v147;
+    if (!(v2 == 0)) goto v8;
+    at(u8, v0) = 0;
+    at(ptr_1, v0 + 8) = v4;
+    memset(v0 + 16, 0, 16u);
+    return;
+v8:;
+    memset(v5, 0, 24u);
+    v13 = 0; v16 = v2; v18 = v1;
+v12:;
+    u32 v20 = at(u32, v18);
+    v22 = 0;
+v21:;
+    u64 v25 = v22 * 12u;
+    if (!(at(u32, v18 + (i64)v25) == v20)) { v32 = v25; v33 = v22; goto v15; }
+    u64 v23 = v22 + 1;
+    if (!(v23 == v16)) { v22 = v23; goto v21; }
+    v32 = v16 * 12u; v33 = v16;
+v15:;
+    u64 v17 = v16 - v33;
+    u64 v14 = v13 + 1;
+    if (v17 == 0) { v36 = 0; v39 = v2; v41 = v1; } else { v13 = v14; v16 = v17; v18 = v18 + (i64)v32; goto v12; }
+v35:;
+    u32 v43 = at(u32, v41);
+    v45 = 0;
+v44:;
+    u64 v48 = v45 * 12u;
+    if (!(at(u32, v41 + (i64)v48) == v43)) { v55 = v48; v56 = v45; goto v38; }
+    u64 v46 = v45 + 1;
+    if (!(v46 == v39)) { v45 = v46; goto v44; }
+    v55 = v39 * 12u; v56 = v39;
+v38:;
+    u64 v40 = v39 - v56;
+    u32 v37 = v36 + 1;
+    if (!(v40 == 0)) { v36 = v37; v39 = v40; v41 = v41 + (i64)v55; goto v35; }
+    u64 v62 = ((v2 * 5) + 10u) + (v14 * 15u);
+    if (!(v62 == 0)) goto v65;
+    at(ptr, v5) = v4;
+    memset(v5 + 8, 0, 16u);
+    v83 = v5 + 16; v84 = v5 + 8; v85 = 0; goto v68;
+v65:;
+    if (!((i64)v62 > (i64)0xffffffffffffffffu)) { v321 = 1; v322 = (u8 *)0; v323 = 0; v324 = 0; goto v71; }
+    u64_u64 v73 = sys_rattle_alloc(v62, 1);
+    if (!(v73._0 & 1)) { v321 = 1; v322 = (u8 *)0; v323 = 0; v324 = 0; goto v71; }
+    u8 *v78 = (u8 *)v73._1;
+    at(ptr, v5) = v78;
+    at(u64, v5 + 8) = 0;
+    at(u64, v5 + 16) = v62;
+    if (v62 == 1) { v83 = v5 + 16; v84 = v5 + 8; v85 = 1; } else { v92 = v5 + 16; v93 = v5 + 8; v94 = v62; v95 = v78; v96 = v62; v97 = 0; goto v82; }
+v68:;
+    if (!std_alloc_vec_Vec_grow_amortized_1cf2(v5, 2)) goto v88;
+    v92 = v83; v93 = v84; v94 = v85; v95 = at(ptr, v5); v96 = at(u64, v83); v97 = at(u64, v84); goto v82;
+v88:;
+    if (at(u64, v83) == 0) { v321 = 1; v322 = (u8 *)0; v323 = 0; v324 = 0; goto v71; }
+    goto v113;
+v82:;
+    u64 v98 = v97 + 2;
+    at(u16_1, v95 + (i64)v97) = 3584u;
+    at(u64, v93) = v98;
+    at(u64, v92) = v96;
+    u32 v101 = bswap32((u32)v94);
+    if (!((v96 - v98) < 4)) { v114 = v96; v115 = v98; goto v105; }
+    if (!std_alloc_vec_Vec_grow_amortized_1cf2(v5, 4)) goto v108;
+    v114 = at(u64, v92); v115 = at(u64, v93); goto v105;
+v108:;
+    if (at(u64, v92) == 0) { v321 = 1; v322 = (u8 *)0; v323 = 0; v324 = 0; goto v71; }
+    goto v113;
+v105:;
+    u64 v116 = v115 + 4;
+    u8 *v117 = at(ptr, v5);
+    at(u32_1, v117 + (i64)v115) = v101;
+    at(u64, v93) = v116;
+    at(u64, v92) = v114;
+    u32 v119 = bswap32(v37);
+    if (!((v114 - v116) < 4)) { v132 = v117; v133 = v114; v134 = v116; goto v123; }
+    if (!std_alloc_vec_Vec_grow_amortized_1cf2(v5, 4)) goto v126;
+    v132 = at(ptr, v5); v133 = at(u64, v92); v134 = at(u64, v93); goto v123;
+v126:;
+    if (at(u64, v92) == 0) { v321 = 1; v322 = (u8 *)0; v323 = 0; v324 = 0; goto v71; }
+    goto v113;
+v123:;
+    at(u32_1, v132 + (i64)v134) = v119;
+    at(u64, v93) = v134 + 4;
+    at(u64, v92) = v133;
+    v142 = v1; v145 = v2; v147 = (v37 * 11u) + 10u;
+v141:;
+    u32 v149 = at(u32, v142);
+    v151 = 0;
+v150:;
+    u64 v154 = v151 * 12u;
+    if (!(at(u32, v142 + (i64)v154) == v149)) { v162 = v154; v163 = v151; goto v158; }
+    u64 v152 = v151 + 1;
+    if (!(v152 == v145)) { v151 = v152; goto v150; }
+    v162 = v145 * 12u; v163 = v145;
+v158:;
+    u64 v146 = v145 - v163;
+    u8 v165 = (u8)(v149 >> 16u);
+    u8 v167 = (u8)(v149 >> 8);
+    u8 v168 = (u8)v149;
+    u64 v169 = at(u64, v5 + 16);
+    u64 v170 = at(u64, v5 + 8);
+    if (!((v169 - v170) < 3)) { v180 = v169; v181 = v170; goto v174; }
+    if (!std_alloc_vec_Vec_grow_amortized_1cf2(v5, 3)) goto v177;
+    v180 = at(u64, v5 + 16); v181 = at(u64, v5 + 8);
+v174:;
+    u64 v182 = v181 + 3;
+    u8 *v183 = at(ptr, v5);
+    at(u8, v183 + (i64)v181) = v165;
+    at(u8, v183 + (i64)v181 + 1) = v167;
+    at(u8, v183 + (i64)v181 + 2) = v168;
+    at(ptr, v5) = v183;
+    at(u64, v5 + 8) = v182;
+    at(u64, v5 + 16) = v180;
+    if (!((v180 - v182) < 4)) { v196 = v183; v197 = v180; v198 = v182; goto v190; }
+    if (!std_alloc_vec_Vec_grow_amortized_1cf2(v5, 4)) goto v177;
+    v196 = at(ptr, v5); v197 = at(u64, v5 + 16); v198 = at(u64, v5 + 8);
+v190:;
+    u64 v199 = v198 + 4;
+    at(u32_1, v196 + (i64)v198) = 0;
+    at(ptr, v5) = v196;
+    at(u64, v5 + 8) = v199;
+    at(u64, v5 + 16) = v197;
+    u32 v201 = bswap32(v147);
+    if (!((v197 - v199) < 4)) { v210 = v196; v211 = v197; v212 = v199; goto v144; }
+    if (!std_alloc_vec_Vec_grow_amortized_1cf2(v5, 4)) goto v177;
+    v210 = at(ptr, v5); v211 = at(u64, v5 + 16); v212 = at(u64, v5 + 8); goto v144;
+v177:;
+    if (at(u64, v92) == 0) { v321 = 1; v322 = (u8 *)0; v323 = 0; v324 = 0; goto v71; }
+    goto v113;
+v144:;
+    u64 v213 = v212 + 4;
+    at(u32_1, v210 + (i64)v212) = v201;
+    at(ptr, v5) = v210;
+    at(u64, v5 + 8) = v213;
+    at(u64, v5 + 16) = v211;
+    if (v146 == 0) { v222 = v210; v225 = v213; v227 = v211; v229 = v2; v231 = v1; } else { v142 = v142 + (i64)v162; v145 = v146; v147 = (v147 + 4) + (((u32)v163) * 5); goto v141; }
+v219:;
+    u32 v233 = at(u32, v231);
+    v235 = 0;
+v234:;
+    u64 v238 = v235 * 12u;
+    if (!(at(u32, v231 + (i64)v238) == v233)) { v246 = v238; v247 = v235; goto v242; }
+    u64 v236 = v235 + 1;
+    if (!(v236 == v229)) { v235 = v236; goto v234; }
+    v246 = v229 * 12u; v247 = v229;
+v242:;
+    u64 v230 = v229 - v247;
+    u32 v249 = bswap32((u32)v247);
+    if (!((v227 - v225) < 4)) { v260 = v222; v261 = v227; v262 = v225; goto v253; }
+    if (!std_alloc_vec_Vec_grow_amortized_1cf2(v5, 4)) goto v256;
+    v260 = at(ptr, v5); v261 = at(u64, v5 + 16); v262 = at(u64, v5 + 8);
+v253:;
+    u64 v263 = v262 + 4;
+    at(u32_1, v260 + (i64)v262) = v249;
+    at(ptr, v5) = v260;
+    at(u64, v5 + 8) = v263;
+    at(u64, v5 + 16) = v261;
+    if (v247 == 0) { v223 = v260; v226 = v263; v228 = v261; goto v224; }
+    v267 = v260; v270 = v263; v272 = v261; v274 = 0;
+v266:;
+    u64 v276 = v274 * 12u;
+    u32 v279 = at(u32_1, v231 + (i64)v276 + 4);
+    u16 v281 = at(u16_1, v231 + (i64)v276 + 8);
+    u8 v283 = (u8)(v279 >> 16u);
+    u8 v285 = (u8)(v279 >> 8);
+    u8 v286 = (u8)v279;
+    if (!((v272 - v270) < 3)) { v296 = v267; v297 = v272; v298 = v270; goto v290; }
+    if (!std_alloc_vec_Vec_grow_amortized_1cf2(v5, 3)) goto v256;
+    v296 = at(ptr, v5); v297 = at(u64, v5 + 16); v298 = at(u64, v5 + 8);
+v290:;
+    u64 v299 = v298 + 3;
+    at(u8, v296 + (i64)v298) = v283;
+    at(u8, v296 + (i64)v298 + 1) = v285;
+    at(u8, v296 + (i64)v298 + 2) = v286;
+    at(ptr, v5) = v296;
+    at(u64, v5 + 8) = v299;
+    at(u64, v5 + 16) = v297;
+    u16 v303 = bswap16(v281);
+    if (!((v297 - v299) < 2)) { v268 = v296; v273 = v297; v312 = v299; goto v269; }
+    if (!std_alloc_vec_Vec_grow_amortized_1cf2(v5, 2)) goto v256;
+    v268 = at(ptr, v5); v273 = at(u64, v5 + 16); v312 = at(u64, v5 + 8); goto v269;
+v256:;
+    if (at(u64, v92) == 0) { v321 = 1; v322 = (u8 *)0; v323 = 0; v324 = 0; goto v71; }
+v113:;
+    sys_rattle_dealloc(at(ptr, v5));
+    v321 = 1; v322 = (u8 *)0; v323 = 0; v324 = 0; goto v71;
+v269:;
+    u64 v271 = v312 + 2;
+    at(u16_1, v268 + (i64)v312) = v303;
+    at(ptr, v5) = v268;
+    at(u64, v5 + 8) = v271;
+    at(u64, v5 + 16) = v273;
+    u64 v275 = v274 + 1;
+    if (v275 == v247) { v223 = v268; v226 = v271; v228 = v273; } else { v267 = v268; v270 = v271; v272 = v273; v274 = v275; goto v266; }
+v224:;
+    if (v230 == 0) { v321 = 0; v322 = v223; v323 = v226; v324 = v228; } else { v222 = v223; v225 = v226; v227 = v228; v229 = v230; v231 = v231 + (i64)v246; goto v219; }
+v71:;
+    at(u8, v0) = v321;
+    at(ptr_1, v0 + 8) = v322;
+    at(u64_1, v0 + 16) = v323;
+    at(u64_1, v0 + 24) = v324;
+    return;
+}
+
+void divided_tables_sequence_union_UnionPairsIterator_next_73ab(u8 *v0, u8 *v1) {
+    _Alignas(4) u8 v3[12], v4[12];
+    u64 v20, v36, v54, v109, v115, v121;
+    flag v107, v108;
+    u8 *v110, *v116, *v122;
+    memset(v3, 0, 12u);
+    memset(v4, 0, 12u);
+    u8 *v6 = at(ptr_1, v1 + 8);
+    u64 v8 = at(u64_1, v1 + 16);
+    u8 *v9 = at(ptr, v1);
+    if (v8 == 0) { v36 = 0; goto v11; }
+    u8 *v13 = at(ptr, v9);
+    u16 v17 = at(u16, at(ptr, v13 + 8) + 64);
+    v20 = 0;
+v19:;
+    u16 v26 = at(u16_1, v6 + (i64)(v20 * 12u) + 8);
+    if (!(v26 < v17)) goto v22;
+    if (at(u8, at(ptr, v13 + 712) + (i64)(((u64)v26) * 24u)) & 1) { v36 = v20; goto v11; }
+v22:;
+    u64 v21 = v20 + 1;
+    if (v21 == v8) v36 = v8; else { v20 = v21; goto v19; }
+v11:;
+    u64 v37 = v36 * 12u;
+    u64 v39 = v8 - v36;
+    u8 *v41 = at(ptr_1, v1 + 24);
+    u64 v43 = at(u64_1, v1 + 32);
+    if (v43 == 0) goto v45;
+    u8 *v47 = at(ptr, v9);
+    u16 v51 = at(u16, at(ptr, v47 + 8) + 64);
+    v54 = 0;
+v53:;
+    u16 v60 = at(u16_1, v41 + (i64)(v54 * 12u) + 8);
+    if (!(v60 < v51)) goto v63;
+    if (!(at(u8, at(ptr, v47 + 712) + (i64)(((u64)v60) * 24u)) & 1)) goto v63;
+    u64 v55 = v54 + 1;
+    if (!(v55 == v43)) { v54 = v55; goto v53; }
+v45:;
+    v107 = 1; v108 = v8 == v36; v109 = 0; v110 = v41 + (i64)(v43 * 12u); goto v74;
+v63:;
+    u64 v75 = v54 * 12u;
+    u64 v77 = v43 - v54;
+    flag v78 = v8 == v36;
+    flag v79 = v43 == v54;
+    if (v78 | v79) { v107 = v79; v108 = v78; v109 = v77; v110 = v41 + (i64)v75; } else goto v81;
+v74:;
+    if (!(v107 | (!v108))) { v121 = v109; v122 = v110; goto v106; }
+    if (!v108) { v115 = v109; v116 = v110; goto v105; }
+    memset(v0, 0, 16u);
+    return;
+v81:;
+    u64 v95 = (((u64)at(u32_1, v6 + (i64)v37)) * 1114112u) + ((u64)at(u32_1, v6 + (i64)v37 + 4));
+    u64 v99 = (((u64)at(u32_1, v41 + (i64)v75)) * 1114112u) + ((u64)at(u32_1, v41 + (i64)v75 + 4));
+    if ((v95 < v99) ? 1 : ((v95 == v99) ? (at(u16_1, v6 + (i64)v37 + 8) <= at(u16_1, v41 + (i64)v75 + 8)) : 0)) { v115 = v77; v116 = v41 + (i64)v75; } else { v121 = v77; v122 = v41 + (i64)v75; goto v106; }
+v105:;
+    at(ptr_1, v1 + 8) = v6 + (i64)v37 + 12;
+    at(u64_1, v1 + 16) = v39 - 1;
+    at(ptr_1, v1 + 24) = v116;
+    at(u64_1, v1 + 32) = v115;
+    memcpy(v3, v6 + (i64)v37, 12u);
+    at(u32_1, v0) = 1;
+    memcpy(v0 + 4, v3, 12u);
+    return;
+v106:;
+    at(ptr_1, v1 + 8) = v6 + (i64)v37;
+    at(u64_1, v1 + 16) = v39;
+    at(ptr_1, v1 + 24) = v122 + 12;
+    at(u64_1, v1 + 32) = v121 - 1;
+    memmove(v4, v122, 12u);
+    at(u32_1, v0) = 1;
+    memcpy(v0 + 4, v4, 12u);
+    return;
+}
+
+static void divided_tables_sequence_union_UnionPairsIterator_next_ec12(u8 *v0, u8 *v1) {
+    _Alignas(4) u8 v3[12], v4[12];
+    u64 v20, v35, v53, v107, v113, v119;
+    flag v105, v106;
+    u8 *v108, *v114, *v120;
+    memset(v3, 0, 12u);
+    memset(v4, 0, 12u);
+    u8 *v6 = at(ptr_1, v1 + 8);
+    u64 v8 = at(u64_1, v1 + 16);
+    u8 *v9 = at(ptr, v1);
+    if (v8 == 0) { v35 = 0; goto v11; }
+    u8 *v13 = at(ptr, v9);
+    u16 v17 = at(u16, at(ptr, v13 + 8) + 64);
+    v20 = 0;
+v19:;
+    u16 v26 = at(u16_1, v6 + (i64)(v20 * 12u) + 8);
+    if (!(v26 < v17)) goto v22;
+    if (at(u8, at(ptr, v13 + 168) + (i64)((u64)v26)) & 1) { v35 = v20; goto v11; }
+v22:;
+    u64 v21 = v20 + 1;
+    if (v21 == v8) v35 = v8; else { v20 = v21; goto v19; }
+v11:;
+    u64 v36 = v35 * 12u;
+    u64 v38 = v8 - v35;
+    u8 *v40 = at(ptr_1, v1 + 24);
+    u64 v42 = at(u64_1, v1 + 32);
+    if (v42 == 0) goto v44;
+    u8 *v46 = at(ptr, v9);
+    u16 v50 = at(u16, at(ptr, v46 + 8) + 64);
+    v53 = 0;
+v52:;
+    u16 v59 = at(u16_1, v40 + (i64)(v53 * 12u) + 8);
+    if (!(v59 < v50)) goto v62;
+    if (!(at(u8, at(ptr, v46 + 168) + (i64)((u64)v59)) & 1)) goto v62;
+    u64 v54 = v53 + 1;
+    if (!(v54 == v42)) { v53 = v54; goto v52; }
+v44:;
+    v105 = 1; v106 = v8 == v35; v107 = 0; v108 = v40 + (i64)(v42 * 12u); goto v72;
+v62:;
+    u64 v73 = v53 * 12u;
+    u64 v75 = v42 - v53;
+    flag v76 = v8 == v35;
+    flag v77 = v42 == v53;
+    if (v76 | v77) { v105 = v77; v106 = v76; v107 = v75; v108 = v40 + (i64)v73; } else goto v79;
+v72:;
+    if (!(v105 | (!v106))) { v119 = v107; v120 = v108; goto v104; }
+    if (!v106) { v113 = v107; v114 = v108; goto v103; }
+    memset(v0, 0, 16u);
+    return;
+v79:;
+    u64 v93 = (((u64)at(u32_1, v6 + (i64)v36)) * 1114112u) + ((u64)at(u32_1, v6 + (i64)v36 + 4));
+    u64 v97 = (((u64)at(u32_1, v40 + (i64)v73)) * 1114112u) + ((u64)at(u32_1, v40 + (i64)v73 + 4));
+    if ((v93 < v97) ? 1 : ((v93 == v97) ? (at(u16_1, v6 + (i64)v36 + 8) <= at(u16_1, v40 + (i64)v73 + 8)) : 0)) { v113 = v75; v114 = v40 + (i64)v73; } else { v119 = v75; v120 = v40 + (i64)v73; goto v104; }
+v103:;
+    at(ptr_1, v1 + 8) = v6 + (i64)v36 + 12;
+    at(u64_1, v1 + 16) = v38 - 1;
+    at(ptr_1, v1 + 24) = v114;
+    at(u64_1, v1 + 32) = v113;
+    memcpy(v3, v6 + (i64)v36, 12u);
+    at(u32_1, v0) = 1;
+    memcpy(v0 + 4, v3, 12u);
+    return;
+v104:;
+    at(ptr_1, v1 + 8) = v6 + (i64)v36;
+    at(u64_1, v1 + 16) = v38;
+    at(ptr_1, v1 + 24) = v120 + 12;
+    at(u64_1, v1 + 32) = v119 - 1;
+    memmove(v4, v120, 12u);
+    at(u32_1, v0) = 1;
+    memcpy(v0 + 4, v4, 12u);
     return;
 }
 
@@ -1814,79 +2725,78 @@ v6:;
 }
 
 void font_subset_cut_font_cut_of_kind(u8 *v0, u8 *v1, u8 *v2) {
-    u8 v4[1], v5[1024], v7[1024], v28[327], *v135, *v167, *v211, *v249, *v261, *v279, *v212, *v334, *v504, *v569, *v617, *v618, *v622, *v629, *v505, *v693, *v710, *v757, *v770, *v799, *v816, *v866, *v894, *v1006, *v1014, *v1015;
-    _Alignas(4) u8 v6[16], v10[64], v11[20], v12[32];
-    _Alignas(8) u8 v8[48], v9[24], v13[32], v14[24], v15[24], v16[384], v17[384], v18[328], v19[200], v20[144], v21[24], v22[16], v23[144], v24[320], v25[152], v26[40], v27[24], v29[320];
-    u16 v154, v155, v156, v511, v1023, v1025;
-    u64 v168, v169, v214, v216, v220, v262, v263, v280, v281, v215, v217, v337, v339, v341, v1072, v1073, v1096, v1107, v1110, v1118, v1120, v403, v404, v416, v433, v445, v446, v469, v476, v489, v492, v499, v507, v509, v513, v555, v556, v570, v571, v593, v604, v607, v615, v623, v619, v620, v621, v630, v631, v632, v510, v646, v662, v669, v682, v685, v514, v694, v695, v711, v712, v727, v758, v771, v772, v782, v800, v801, v817, v818, v836, v842, v833, v849, v867, v868, v876, v895, v896, v919, v930, v933, v941, v943, v961, v968, v981, v984, v991, v1007, v1008, v1017, v1019, v1020, v1042, v1050, v1051, v1127, v1128, v340, v1144, v1150, v1151, v1152, v1153, v1160, v1161, v1162, v1163;
-    u32 v218, v409, v413, v410, v1021;
-    u8x16 v478, v671, v970;
+    u8 v4[1], v6[1024], v8[1024], v29[359], *v135, *v167, *v211, *v249, *v261, *v279, *v212, *v339, *v377, v409, v410, v411, v412, v413, v414, v416, v417, v418, v419, v420, v421, *v436, *v495, *v602, *v667, *v715, *v716, *v720, *v727, *v603, *v791, *v808, *v855, *v868, *v897, *v914, *v964, *v992, *v1104, *v1112, *v1113;
+    _Alignas(8) u8 v5[160], v9[56], v10[24], v14[32], v15[24], v16[24], v17[384], v18[384], v19[360], v20[200], v21[144], v22[24], v23[16], v24[144], v25[352], v26[152], v27[40], v28[24];
+    _Alignas(4) u8 v7[16], v11[64], v12[20], v13[32];
+    u16 v154, v155, v156, v609, v1121, v1123;
+    u64 v168, v169, v214, v216, v220, v262, v263, v280, v281, v215, v217, v342, v344, v346, v1170, v1171, v1194, v1205, v1208, v1216, v1218, v378, v425, v437, v438, v449, v466, v478, v479, v496, v497, v519, v530, v533, v541, v543, v567, v574, v587, v590, v597, v605, v607, v611, v653, v654, v668, v669, v691, v702, v705, v713, v721, v717, v718, v719, v728, v729, v730, v608, v744, v760, v767, v780, v783, v612, v792, v793, v809, v810, v825, v856, v869, v870, v880, v898, v899, v915, v916, v934, v940, v931, v947, v965, v966, v974, v993, v994, v1017, v1028, v1031, v1039, v1041, v1059, v1066, v1079, v1082, v1089, v1105, v1106, v1115, v1117, v1118, v1140, v1148, v1149, v1225, v1226, v345, v1242, v1248, v1249, v1250, v1251, v1288, v1289, v1290, v1291;
+    u32 v218, v415, v422, v423, v424, v442, v446, v443, v1119;
+    u8x16 v576, v769, v1068;
     u8 v30 = at(u8, v2);
-    memcpy(v22, v2 + 8, 16u);
-    memset(v24, 0, 320u);
-    memset(v25, 0, 152u);
-    memset(v26, 0, 40u);
-    memset(v28, 0, 327u);
-    memset(v29, 0, 320u);
-    font_subset_selection_Seeds_of(v25, at(ptr, v1 + 8), 0, (u8 *)0);
-    u64 v36 = at(u64, v25 + 120);
-    if (!(at(u8, v25) == 0)) { v1160 = 1; v1161 = 0; v1162 = 0; v1163 = 0; goto v39; }
-    u64 v45 = (u64)at(u8, v25 + 112);
-    memcpy(v23, v25 + 8, 104u);
-    at(u64, v23 + 104) = v45;
-    at(u64, v23 + 112) = v36;
-    memcpy(v23 + 120, v25 + 128, 24u);
-    at(u64, v27) = (u64)v30;
-    memcpy(v27 + 8, v22, 16u);
-    font_subset_font_to_cut_FontToCut_numbers_beside_19bd(v26, v1, v23, v27);
-    if (!(at(u8, v26) == 0)) goto v53;
-    u8 v55 = at(u8, v26 + 8);
-    u8 *v57 = at(ptr, v26 + 16);
-    u64 v61 = at(u64, v26 + 32);
+    memcpy(v23, v2 + 8, 16u);
+    memset(v25, 0, 352u);
+    memset(v26, 0, 152u);
+    memset(v27, 0, 40u);
+    memset(v29, 0, 359u);
+    font_subset_selection_Seeds_of(v26, at(ptr, v1 + 8), 0, (u8 *)0);
+    u64 v36 = at(u64, v26 + 120);
+    if (!(at(u8, v26) == 0)) { v1288 = 1; v1289 = 0; v1290 = 0; v1291 = 0; goto v39; }
+    u64 v45 = (u64)at(u8, v26 + 112);
+    memcpy(v24, v26 + 8, 104u);
+    at(u64, v24 + 104) = v45;
+    at(u64, v24 + 112) = v36;
+    memcpy(v24 + 120, v26 + 128, 24u);
+    at(u64, v28) = (u64)v30;
+    memcpy(v28 + 8, v23, 16u);
+    font_subset_font_to_cut_FontToCut_numbers_beside_19bd(v27, v1, v24, v28);
+    if (!(at(u8, v27) == 0)) goto v53;
+    u8 v55 = at(u8, v27 + 8);
+    u8 *v57 = at(ptr, v27 + 16);
+    u64 v61 = at(u64, v27 + 32);
     flag v63 = v55 != 1;
-    u64 v65 = v63 ? 0 : at(u64, v26 + 24);
-    memset(v18, 0, 328u);
-    memset(v19, 0, 200u);
-    memcpy(v20, v25 + 8, 104u);
-    at(u64, v20 + 104) = v45;
-    at(u64, v20 + 112) = v36;
-    memcpy(v20 + 120, v25 + 128, 24u);
-    at(u64, v21) = (u64)v55;
-    at(ptr, v21 + 8) = v63 ? ((u8 *)0) : v57;
-    at(u64, v21 + 16) = v65;
-    font_subset_selection_Selection_of_seeds_4cdf(v19, v1, v20, v21);
-    if (!(at(u8, v19) == 0)) goto v74;
-    font_subset_kind_source_CutOfKind_of_1490(v18, v19 + 8);
-    u8 v77 = at(u8, v18);
-    memcpy(v28 + 7, v18 + 8, 320u);
+    u64 v65 = v63 ? 0 : at(u64, v27 + 24);
+    memset(v19, 0, 360u);
+    memset(v20, 0, 200u);
+    memcpy(v21, v26 + 8, 104u);
+    at(u64, v21 + 104) = v45;
+    at(u64, v21 + 112) = v36;
+    memcpy(v21 + 120, v26 + 128, 24u);
+    at(u64, v22) = (u64)v55;
+    at(ptr, v22 + 8) = v63 ? ((u8 *)0) : v57;
+    at(u64, v22 + 16) = v65;
+    font_subset_selection_Selection_of_seeds_4cdf(v20, v1, v21, v22);
+    if (!(at(u8, v20) == 0)) goto v74;
+    font_subset_kind_source_CutOfKind_of_1490(v19, v20 + 8);
+    u8 v77 = at(u8, v19);
+    memcpy(v29 + 7, v19 + 8, 352u);
     if (!(v77 == 0)) goto v75;
-    memcpy(v24, v28 + 7, 320u);
-    memset(v16, 0, 384u);
-    memset(v14, 0, 24u);
-    font_write_size_file_size_22d8(v14, v24);
-    u64 v110 = at(u64, v14 + 16);
+    memcpy(v25, v29 + 7, 352u);
+    memset(v17, 0, 384u);
+    memset(v15, 0, 24u);
+    font_write_size_file_size_22d8(v15, v25);
+    u64 v110 = at(u64, v15 + 16);
     if (!(v110 > 134217728u)) goto v113;
-    v1150 = 1; v1151 = 1; v1152 = v110; v1153 = 0; goto v1148;
+    v1248 = 1; v1249 = 1; v1250 = v110; v1251 = 0; goto v1246;
 v113:;
-    u64 v114 = at(u64, v14);
-    memcpy(v15 + 8, v14 + 8, 16u);
-    at(u64, v15) = v114;
-    font_write_plan_plan_of(v16, v24, 1, v15);
-    u64 v118 = at(u64, v15 + 16);
-    u64 v119 = at(u64, v16);
-    memcpy(v17 + 8, v16 + 8, 376u);
-    at(u64, v17) = v119;
+    u64 v114 = at(u64, v15);
+    memcpy(v16 + 8, v15 + 8, 16u);
+    at(u64, v16) = v114;
+    font_write_plan_plan_of(v17, v25, 1, v16);
+    u64 v118 = at(u64, v16 + 16);
+    u64 v119 = at(u64, v17);
+    memcpy(v18 + 8, v17 + 8, 376u);
+    at(u64, v18) = v119;
     if (v118 == 0) { v135 = v4; goto v123; }
     if (!((i64)v118 > (i64)0xffffffffffffffffu)) goto v127;
     u64_u64 v129 = sys_rattle_alloc(v118, 1);
     if (!(v129._0 & 1)) goto v127;
     v135 = (u8 *)v129._1;
 v123:;
-    at(ptr, v13) = v135;
-    at(u64, v13 + 8) = 0;
-    at(u64, v13 + 16) = v118;
-    at(u64, v13 + 24) = (u64)134217728u - v118;
-    u16 v141 = at(u16, v17 + 352);
+    at(ptr, v14) = v135;
+    at(u64, v14 + 8) = 0;
+    at(u64, v14 + 16) = v118;
+    at(u64, v14 + 24) = (u64)134217728u - v118;
+    u16 v141 = at(u16, v18 + 352);
     if (!(((u16)(v141 + 65535u)) < 4095u)) { v154 = 0; v155 = 0; v156 = 0; goto v145; }
     u16 v147 = (u16)(ctlz16(v141) ^ 15u);
     u16 v148 = (u16)((u32)16u << (v147 & 31));
@@ -1894,8 +2804,8 @@ v123:;
 v145:;
     u16 v157 = bswap16(v141);
     if (!(v118 < 12u)) { v167 = v135; v168 = v118; v169 = 0; goto v160; }
-    if (!std_alloc_vec_Vec_grow_amortized_1cf2(v13, 12u)) goto v163;
-    v167 = at(ptr, v13); v168 = at(u64, v13 + 16); v169 = at(u64, v13 + 8); goto v160;
+    if (!std_alloc_vec_Vec_grow_amortized_1cf2(v14, 12u)) goto v163;
+    v167 = at(ptr, v14); v168 = at(u64, v14 + 16); v169 = at(u64, v14 + 8); goto v160;
 v163:;
     __builtin_trap();
     __builtin_trap();
@@ -1909,72 +2819,72 @@ v160:;
     at(u16_1, v167 + (i64)v169 + 8) = v155;
     at(u16_1, v167 + (i64)v169 + 10) = v154;
     u64 v178 = v169 + 12u;
-    at(ptr, v13) = v167;
-    at(u64, v13 + 8) = v178;
-    at(u64, v13 + 16) = v168;
-    v211 = v167; v214 = v178; v216 = v168; v218 = (((u32)at(u16, v17 + 352)) << 4) | 12u; v220 = 0;
+    at(ptr, v14) = v167;
+    at(u64, v14 + 8) = v178;
+    at(u64, v14 + 16) = v168;
+    v211 = v167; v214 = v178; v216 = v168; v218 = (((u32)at(u16, v18 + 352)) << 4) | 12u; v220 = 0;
 v210:;
     u64 v222 = v220 * 12u;
-    u32 v226 = at(u32, (v17 + 4) + v222 + 4);
-    u32 v228 = at(u32, (v17 + 4) + v222 + 8);
-    if (!(at(u8, (v17 + 4) + v222) & 1)) { v212 = v211; v215 = v214; v217 = v216; goto v213; }
+    u32 v226 = at(u32, (v18 + 4) + v222 + 4);
+    u32 v228 = at(u32, (v18 + 4) + v222 + 8);
+    if (!(at(u8, (v18 + 4) + v222) & 1)) { v212 = v211; v215 = v214; v217 = v216; goto v213; }
     u64 v233 = at(u64, (u8 *)table_faed1f12 + (v220 << 3));
     if (!(v233 < 16u)) goto v236;
-    at(u32, v10) = 841962319u;
-    at(u32, v10 + 4) = 1885433187u;
-    at(u32, v10 + 8) = 544503395u;
-    at(u32, v10 + 12) = 1835495526u;
-    at(u32, v10 + 16) = 1886609767u;
-    at(u32, v10 + 20) = 1719233639u;
-    at(u32, v10 + 24) = 1684104552u;
-    at(u32, v10 + 28) = 1634035816u;
-    at(u32, v10 + 32) = 2020896104u;
-    at(u32, v10 + 36) = 1633906540u;
-    at(u32, v10 + 40) = 1886937453u;
-    at(u32, v10 + 44) = 1701667182u;
-    at(u32, v10 + 48) = 1953722224u;
-    at(u32, v10 + 52) = 1885696624u;
-    at(u32, v10 + 56) = 1634035830u;
-    at(u32, v10 + 60) = 2020896118u;
-    v249 = v10 + (v233 << 2); goto v239;
+    at(u32, v11) = 841962319u;
+    at(u32, v11 + 4) = 1885433187u;
+    at(u32, v11 + 8) = 544503395u;
+    at(u32, v11 + 12) = 1835495526u;
+    at(u32, v11 + 16) = 1886609767u;
+    at(u32, v11 + 20) = 1719233639u;
+    at(u32, v11 + 24) = 1684104552u;
+    at(u32, v11 + 28) = 1634035816u;
+    at(u32, v11 + 32) = 2020896104u;
+    at(u32, v11 + 36) = 1633906540u;
+    at(u32, v11 + 40) = 1886937453u;
+    at(u32, v11 + 44) = 1701667182u;
+    at(u32, v11 + 48) = 1953722224u;
+    at(u32, v11 + 52) = 1885696624u;
+    at(u32, v11 + 56) = 1634035830u;
+    at(u32, v11 + 60) = 2020896118u;
+    v249 = v11 + (v233 << 2); goto v239;
 v236:;
     if (!(v233 < 21u)) goto v242;
-    at(u32, v11) = 1163084098u;
-    at(u32, v11 + 4) = 1178944583u;
-    at(u32, v11 + 8) = 1397706823u;
-    at(u32, v11 + 12) = 1112888135u;
-    at(u32, v11 + 16) = 1852990827u;
-    v249 = v11 + (i64)(v233 << 2) - 64; goto v239;
+    at(u32, v12) = 1163084098u;
+    at(u32, v12 + 4) = 1178944583u;
+    at(u32, v12 + 8) = 1397706823u;
+    at(u32, v12 + 12) = 1112888135u;
+    at(u32, v12 + 16) = 1852990827u;
+    v249 = v12 + (i64)(v233 << 2) - 64; goto v239;
 v242:;
-    at(u32, v12) = 1380013640u;
-    at(u32, v12 + 4) = 1380013645u;
-    at(u32, v12 + 8) = 1413567571u;
-    at(u32, v12 + 12) = 1380013654u;
-    at(u32, v12 + 16) = 1918989921u;
-    at(u32, v12 + 20) = 1918989923u;
-    at(u32, v12 + 24) = 1918989926u;
-    at(u32, v12 + 28) = 1918989927u;
-    v249 = v12 + (i64)(v233 << 2) - 84;
+    at(u32, v13) = 1380013640u;
+    at(u32, v13 + 4) = 1380013645u;
+    at(u32, v13 + 8) = 1413567571u;
+    at(u32, v13 + 12) = 1380013654u;
+    at(u32, v13 + 16) = 1918989921u;
+    at(u32, v13 + 20) = 1918989923u;
+    at(u32, v13 + 24) = 1918989926u;
+    at(u32, v13 + 28) = 1918989927u;
+    v249 = v13 + (i64)(v233 << 2) - 84;
 v239:;
     u32 v250 = at(u32_1, v249);
     if (!((v216 - v214) < 4)) { v261 = v211; v262 = v216; v263 = v214; goto v254; }
-    if (!std_alloc_vec_Vec_grow_amortized_1cf2(v13, 4)) goto v257;
-    v261 = at(ptr, v13); v262 = at(u64, v13 + 16); v263 = at(u64, v13 + 8); goto v254;
+    if (!std_alloc_vec_Vec_grow_amortized_1cf2(v14, 4)) goto v257;
+    v261 = at(ptr, v14); v262 = at(u64, v14 + 16); v263 = at(u64, v14 + 8); goto v254;
 v257:;
     __builtin_trap();
     __builtin_trap();
 v254:;
     at(u32_1, v261 + (i64)v263) = v250;
     u64 v265 = v263 + 4;
-    at(ptr, v13) = v261;
-    at(u64, v13 + 8) = v265;
-    at(u64, v13 + 16) = v262;
+    at(ptr, v14) = v261;
+    at(u64, v14 + 8) = v265;
+    at(u64, v14 + 16) = v262;
     u32 v266 = bswap32(v228);
     u32 v267 = bswap32(v218);
     u32 v268 = bswap32(v226);
     if (!((v262 - v265) < 12u)) { v279 = v261; v280 = v262; v281 = v265; goto v272; }
-    if (!std_alloc_vec_Vec_grow_amortized_1cf2(v13, 12u)) goto v275;
-    v279 = at(ptr, v13); v280 = at(u64, v13 + 16); v281 = at(u64, v13 + 8); goto v272;
+    if (!std_alloc_vec_Vec_grow_amortized_1cf2(v14, 12u)) goto v275;
+    v279 = at(ptr, v14); v280 = at(u64, v14 + 16); v281 = at(u64, v14 + 8); goto v272;
 v275:;
     __builtin_trap();
     __builtin_trap();
@@ -1983,1470 +2893,1626 @@ v272:;
     at(u32_1, v279 + (i64)v281 + 4) = v267;
     at(u32_1, v279 + (i64)v281 + 8) = v268;
     u64 v285 = v281 + 12u;
-    at(ptr, v13) = v279;
-    at(u64, v13 + 8) = v285;
-    at(u64, v13 + 16) = v280;
+    at(ptr, v14) = v279;
+    at(u64, v14 + 8) = v285;
+    at(u64, v14 + 16) = v280;
     v212 = v279; v215 = v285; v217 = v280;
 v213:;
     u64 v221 = v220 + 1;
     if (!(v221 == 29u)) { v211 = v212; v214 = v215; v216 = v217; v218 = (v226 + v218) + (((u32)0 - v226) & 3); v220 = v221; goto v210; }
-    u64 v294 = (u64)v5;
-    v334 = v212; v337 = v215; v339 = v217; v341 = 0;
-v333:;
-    u64 v345 = at(u64, (u8 *)table_faed1f12 + (v341 << 3));
-    memset(v9, 0, 24u);
-    switch (v345) {
-    case 1: goto v347;
-    case 5: goto v348;
-    case 6: goto v349;
-    case 9: goto v350;
-    default: goto v346;
+    u64 v294 = (u64)v6;
+    v339 = v212; v342 = v215; v344 = v217; v346 = 0;
+v338:;
+    u64 v350 = at(u64, (u8 *)table_faed1f12 + (v346 << 3));
+    memset(v10, 0, 24u);
+    switch (v350) {
+    case 1: goto v352;
+    case 5: goto v353;
+    case 6: goto v354;
+    case 9: goto v355;
+    default: goto v351;
     }
-v346:;
-    font_subset_kind_source_CutOfKindSource_copied(v9, v24, v345);
-    if (!(at(u8, v9) == 1)) goto v1055;
-    u8 *v1058 = at(ptr, v9 + 8);
-    u64 v1059 = (u64)v1058;
-    u64 v1060 = at(u64, v9 + 16);
-    u64 v1061 = at(u64, v13 + 16);
-    u64 v1062 = at(u64, v13 + 8);
-    if (!(v1060 > (v1061 - v1062))) { v1072 = v1061; v1073 = v1062; goto v1066; }
-    if (!std_alloc_vec_Vec_grow_amortized_1cf2(v13, v1060)) goto v1069;
-    v1072 = at(u64, v13 + 16); v1073 = at(u64, v13 + 8); goto v1066;
-v1069:;
+v351:;
+    font_subset_kind_source_CutOfKindSource_copied(v10, v25, v350);
+    if (!(at(u8, v10) == 1)) goto v1153;
+    u8 *v1156 = at(ptr, v10 + 8);
+    u64 v1157 = (u64)v1156;
+    u64 v1158 = at(u64, v10 + 16);
+    u64 v1159 = at(u64, v14 + 16);
+    u64 v1160 = at(u64, v14 + 8);
+    if (!(v1158 > (v1159 - v1160))) { v1170 = v1159; v1171 = v1160; goto v1164; }
+    if (!std_alloc_vec_Vec_grow_amortized_1cf2(v14, v1158)) goto v1167;
+    v1170 = at(u64, v14 + 16); v1171 = at(u64, v14 + 8); goto v1164;
+v1167:;
     __builtin_trap();
     __builtin_trap();
-v1066:;
-    u8 *v1074 = at(ptr, v13);
-    u64 v1075 = (u64)v1074;
-    memset(v13 + 8, 0, 16u);
-    if (!((((u64)(v1074 + (i64)v1073)) - ((u64)v1058)) < v1060)) goto v1082;
-    if (v1060 < 4) { v1118 = 0; goto v1084; }
-    if (((v1073 + v1075) - v1059) < 32u) { v1118 = 0; goto v1084; }
-    if (v1060 < 16u) { v1107 = 0; goto v1091; }
-    u64 v1093 = v1060 & 12u;
-    u64 v1094 = v1060 & 0xfffffffffffffff0u;
-    v1096 = 0;
-v1095:;
-    at(u8x16_1, (v1074 + (i64)v1073) + v1096) = at(u8x16_1, v1058 + v1096);
-    u64 v1097 = v1096 + 16u;
-    if (!(v1097 == v1094)) { v1096 = v1097; goto v1095; }
-    if (v1060 == v1094) goto v1104;
-    if (v1093 == 0) { v1118 = v1094; goto v1084; }
-    v1107 = v1094;
-v1091:;
-    u64 v1108 = v1060 & 0xfffffffffffffffcu;
-    v1110 = v1107;
-v1109:;
-    at(u8x4_1, (v1074 + (i64)v1073) + v1110) = at(u8x4_1, v1058 + v1110);
-    u64 v1111 = v1110 + 4;
-    if (!(v1111 == v1108)) { v1110 = v1111; goto v1109; }
-    if (v1060 == v1108) goto v1104;
-    v1118 = v1108;
-v1084:;
-    v1120 = v1118;
-v1119:;
-    at(u8, (v1074 + (i64)v1073) + v1120) = at(u8, v1058 + v1120);
-    u64 v1121 = v1120 + 1;
-    if (v1121 == v1060) goto v1104;
-    v1120 = v1121; goto v1119;
-v1082:;
-    memmove_any(v1074 + (i64)v1073, v1058, v1060);
-v1104:;
-    u64 v1126 = v1073 + v1060;
-    at(ptr, v13) = v1074;
-    at(u64, v13 + 8) = v1126;
-    at(u64, v13 + 16) = v1072;
-    v1127 = v1126; v1128 = v1072; goto v452;
-v1055:;
-    v1127 = at(u64, v13 + 8); v1128 = at(u64, v13 + 16); goto v452;
-v347:;
-    u32 v352 = at(u32, v17 + 360);
-    u32 v355 = bswap32((v352 * 12u) + 16u);
-    u8 v356 = (u8)v355;
-    u8 v358 = (u8)(v355 >> 8);
-    u8 v360 = (u8)(v355 >> 16u);
-    u8 v362 = (u8)(v355 >> 24u);
-    u32 v363 = bswap32(v352);
-    u8 v364 = (u8)v363;
-    u8 v366 = (u8)(v363 >> 8);
-    u8 v368 = (u8)(v363 >> 16u);
-    u8 v370 = (u8)(v363 >> 24u);
-    flag v371 = at(u8, v17) == 0;
-    u64 v391 = v371 ? 28u : 36u;
-    at(u64, v8) = 0;
-    at(u8, v8 + 3) = v371 ? 1 : 2;
-    at(u8, v8 + 5) = v371 ? 3 : 0;
-    at(u8, v8 + 7) = v371 ? 10u : 4;
-    at(u8, v8 + 8) = 0;
-    at(u8, v8 + 9) = 0;
-    at(u8, v8 + 10) = 0;
-    at(u8, v8 + 11) = v371 ? 12u : 20u;
-    at(u8, v8 + 12) = 0;
-    at(u8, v8 + 13) = v371 ? 12u : 3;
-    at(u8, v8 + 14) = 0;
-    at(u8, v8 + 15) = v371 ? 0 : 10u;
-    at(u8, v8 + 16) = v371 ? v356 : 0;
-    at(u8, v8 + 17) = v371 ? v358 : 0;
-    at(u8, v8 + 18) = v371 ? v360 : 0;
-    at(u8, v8 + 19) = v371 ? v362 : 20u;
-    at(u8, v8 + 20) = 0;
-    at(u8, v8 + 21) = v371 ? 0 : 12u;
-    at(u8, v8 + 22) = 0;
-    at(u8, v8 + 23) = 0;
-    at(u8, v8 + 24) = v371 ? v364 : v356;
-    at(u8, v8 + 25) = v371 ? v366 : v358;
-    at(u8, v8 + 26) = v371 ? v368 : v360;
-    at(u8, v8 + 27) = v371 ? v370 : v362;
-    at(u32, v8 + 28) = 0;
-    at(u8, v8 + 32) = v371 ? 0 : v364;
-    at(u8, v8 + 33) = v371 ? 0 : v366;
-    at(u8, v8 + 34) = v371 ? 0 : v368;
-    at(u8, v8 + 35) = v371 ? 0 : v370;
-    at(u32, v8 + 36) = 0;
-    at(u64, v8 + 40) = v391;
-    u64 v392 = at(u64, v13 + 16);
-    u64 v393 = at(u64, v13 + 8);
-    if (!(v391 > (v392 - v393))) { v403 = v392; v404 = v393; goto v397; }
-    if (!std_alloc_vec_Vec_grow_amortized_1cf2(v13, v391)) goto v400;
-    v403 = at(u64, v13 + 16); v404 = at(u64, v13 + 8); goto v397;
-v400:;
+v1164:;
+    u8 *v1172 = at(ptr, v14);
+    u64 v1173 = (u64)v1172;
+    memset(v14 + 8, 0, 16u);
+    if (!((((u64)(v1172 + (i64)v1171)) - ((u64)v1156)) < v1158)) goto v1180;
+    if (v1158 < 4) { v1216 = 0; goto v1182; }
+    if (((v1171 + v1173) - v1157) < 32u) { v1216 = 0; goto v1182; }
+    if (v1158 < 16u) { v1205 = 0; goto v1189; }
+    u64 v1191 = v1158 & 12u;
+    u64 v1192 = v1158 & 0xfffffffffffffff0u;
+    v1194 = 0;
+v1193:;
+    at(u8x16_1, (v1172 + (i64)v1171) + v1194) = at(u8x16_1, v1156 + v1194);
+    u64 v1195 = v1194 + 16u;
+    if (!(v1195 == v1192)) { v1194 = v1195; goto v1193; }
+    if (v1158 == v1192) goto v1202;
+    if (v1191 == 0) { v1216 = v1192; goto v1182; }
+    v1205 = v1192;
+v1189:;
+    u64 v1206 = v1158 & 0xfffffffffffffffcu;
+    v1208 = v1205;
+v1207:;
+    at(u8x4_1, (v1172 + (i64)v1171) + v1208) = at(u8x4_1, v1156 + v1208);
+    u64 v1209 = v1208 + 4;
+    if (!(v1209 == v1206)) { v1208 = v1209; goto v1207; }
+    if (v1158 == v1206) goto v1202;
+    v1216 = v1206;
+v1182:;
+    v1218 = v1216;
+v1217:;
+    at(u8, (v1172 + (i64)v1171) + v1218) = at(u8, v1156 + v1218);
+    u64 v1219 = v1218 + 1;
+    if (v1219 == v1158) goto v1202;
+    v1218 = v1219; goto v1217;
+v1180:;
+    memmove_any(v1172 + (i64)v1171, v1156, v1158);
+v1202:;
+    u64 v1224 = v1171 + v1158;
+    at(ptr, v14) = v1172;
+    at(u64, v14 + 8) = v1224;
+    at(u64, v14 + 16) = v1170;
+    v1225 = v1224; v1226 = v1170; goto v550;
+v1153:;
+    v1225 = at(u64, v14 + 8); v1226 = at(u64, v14 + 16); goto v550;
+v352:;
+    u8 v356 = at(u8, v18);
+    u32 v357 = at(u32, v18 + 360);
+    if (!(at(u8, v25 + 320) == 1)) goto v361;
+    v377 = at(ptr, v25 + 328); v378 = at(u64, v25 + 336); goto v364;
+v361:;
+    if (!(at(u8, v25 + 112) == 1)) { v377 = (u8 *)table_55ba7287; v378 = 0; goto v364; }
+    u8 *v368 = at(ptr, v25 + 120);
+    if (!(at(u8, v368 + 312) == 1)) { v377 = (u8 *)table_55ba7287; v378 = 0; goto v364; }
+    v377 = at(ptr, v368 + 320); v378 = at(u64, v368 + 328);
+v364:;
+    u64 v379 = (u64)v377;
+    u32 v381 = v357 * 12u;
+    u32 v383 = bswap32(v381 + 16u);
+    u32 v384 = bswap32(v357);
+    if (!(v378 == 0)) goto v386;
+    flag v387 = v356 == 0;
+    u32 v395 = v387 ? v384 : v383;
+    v409 = v387 ? 1 : 2; v410 = v387 ? 3 : 0; v411 = v387 ? 10u : 4; v412 = v387 ? 12u : 20u; v413 = v387 ? 12u : 3; v414 = v387 ? 0 : 10u; v415 = v387 ? v383 : 335544320u; v416 = v387 ? 0 : 12u; v417 = 0; v418 = (u8)v395; v419 = (u8)(v395 >> 8); v420 = (u8)(v395 >> 16u); v421 = (u8)(v395 >> 24u); v422 = 0; v423 = v387 ? 0 : v384; v424 = 0; v425 = v387 ? 28u : 36u; goto v406;
+v386:;
+    v409 = 3; v410 = 0; v411 = 4; v412 = 28u; v413 = 0; v414 = 5; v415 = bswap32(v381 + 44u); v416 = 3; v417 = 10u; v418 = 0; v419 = 0; v420 = 0; v421 = 28u; v422 = 3072u; v423 = v383; v424 = v384; v425 = 44u;
+v406:;
+    at(u8, v9) = 0;
+    at(u8, v9 + 1) = 0;
+    at(u8, v9 + 2) = 0;
+    at(u8, v9 + 3) = v409;
+    at(u8, v9 + 4) = 0;
+    at(u8, v9 + 5) = v410;
+    at(u8, v9 + 6) = 0;
+    at(u8, v9 + 7) = v411;
+    at(u8, v9 + 8) = 0;
+    at(u8, v9 + 9) = 0;
+    at(u8, v9 + 10) = 0;
+    at(u8, v9 + 11) = v412;
+    at(u8, v9 + 12) = 0;
+    at(u8, v9 + 13) = v413;
+    at(u8, v9 + 14) = 0;
+    at(u8, v9 + 15) = v414;
+    at(u32, v9 + 16) = v415;
+    at(u8, v9 + 20) = 0;
+    at(u8, v9 + 21) = v416;
+    at(u8, v9 + 22) = 0;
+    at(u8, v9 + 23) = v417;
+    at(u8, v9 + 24) = v418;
+    at(u8, v9 + 25) = v419;
+    at(u8, v9 + 26) = v420;
+    at(u8, v9 + 27) = v421;
+    at(u32, v9 + 28) = v422;
+    at(u32, v9 + 32) = v423;
+    at(u32, v9 + 36) = 0;
+    at(u32, v9 + 40) = v424;
+    at(u32, v9 + 44) = 0;
+    at(u64, v9 + 48) = v425;
+    if (!(v425 > (v344 - v342))) { v436 = v339; v437 = v344; v438 = v342; goto v429; }
+    if (!std_alloc_vec_Vec_grow_amortized_1cf2(v14, v425)) goto v432;
+    v436 = at(ptr, v14); v437 = at(u64, v14 + 16); v438 = at(u64, v14 + 8); goto v429;
+v432:;
     __builtin_trap();
     __builtin_trap();
-v397:;
-    u8 *v405 = at(ptr, v13);
-    memcpy_any(v405 + (i64)v404, v8, v391);
-    at(ptr, v13) = v405;
-    at(u64, v13 + 8) = v404 + v391;
-    at(u64, v13 + 16) = v403;
-    memset(v7, 0, 1024u);
-    v409 = 0;
-v408:;
-    memset(v6, 0, 16u);
-    v413 = v409; v416 = 0;
-v412:;
-    font_subset_kind_source_CutOfKindSource_next_run(v6, v24, v413);
-    if (!(at(u8, v6) == 1)) { v410 = v413; v433 = v416; goto v420; }
-    u32 v422 = at(u32, v6 + 8);
-    u64 v424 = v416 * 12u;
-    u16 v423 = at(u16, v6 + 12);
-    at(u32_1, v7 + v424) = bswap32(at(u32, v6 + 4));
-    at(u32_1, v7 + v424 + 4) = bswap32(v422);
-    at(u32_1, v7 + v424 + 8) = bswap32((u32)v423);
-    u32 v414 = v422 + 1;
-    u64 v417 = v416 + 1;
-    if (v417 == 85u) { v410 = v414; v433 = 85u; } else { v413 = v414; v416 = v417; goto v412; }
-v420:;
-    u64 v434 = v433 * 12u;
-    u64 v435 = at(u64, v13 + 16);
-    u64 v436 = at(u64, v13 + 8);
-    if (!(v434 > (v435 - v436))) { v445 = v435; v446 = v436; goto v411; }
-    if (!std_alloc_vec_Vec_grow_amortized_1cf2(v13, v434)) goto v442;
-    v445 = at(u64, v13 + 16); v446 = at(u64, v13 + 8); goto v411;
-v442:;
-    __builtin_trap();
-    __builtin_trap();
-v411:;
-    u8 *v447 = at(ptr, v13);
-    memcpy_any(v447 + (i64)v446, v7, v434);
-    u64 v449 = v446 + v434;
-    at(ptr, v13) = v447;
-    at(u64, v13 + 8) = v449;
-    at(u64, v13 + 16) = v445;
-    if (v433 == 85u) { v409 = v410; goto v408; }
-    v1127 = v449; v1128 = v445; goto v452;
-v348:;
-    u8 v453 = at(u8, v17);
-    u64 v454 = at(u64, v17 + 368);
-    u16 v457 = at(u16, at(ptr, v24 + 8) + 64);
-    u8 *v458 = at(ptr, v24 + 168);
-    u64 v459 = at(u64, v24 + 176);
-    if (v459 == 0) { v489 = 0; goto v461; }
-    if (at(u8, v458) & 1) { v499 = 0; goto v465; }
-    if (v459 < 64u) { v489 = 0; goto v461; }
-    v469 = 0;
-v468:;
-    if (v469 == 0xffffffffffffffc0u) goto v471;
-    v476 = 0; v478 = (u8x16){0};
+v429:;
+    memcpy_any(v436 + (i64)v438, v9, v425);
+    at(ptr, v14) = v436;
+    at(u64, v14 + 8) = v438 + v425;
+    at(u64, v14 + 16) = v437;
+    memset(v8, 0, 1024u);
+    v442 = 0;
+v441:;
+    memset(v7, 0, 16u);
+    v446 = v442; v449 = 0;
+v445:;
+    font_subset_kind_source_CutOfKindSource_next_run(v7, v25, v446);
+    if (!(at(u8, v7) == 1)) { v443 = v446; v466 = v449; goto v453; }
+    u32 v455 = at(u32, v7 + 8);
+    u64 v457 = v449 * 12u;
+    u16 v456 = at(u16, v7 + 12);
+    at(u32_1, v8 + v457) = bswap32(at(u32, v7 + 4));
+    at(u32_1, v8 + v457 + 4) = bswap32(v455);
+    at(u32_1, v8 + v457 + 8) = bswap32((u32)v456);
+    u32 v447 = v455 + 1;
+    u64 v450 = v449 + 1;
+    if (v450 == 85u) { v443 = v447; v466 = 85u; } else { v446 = v447; v449 = v450; goto v445; }
+v453:;
+    u64 v467 = v466 * 12u;
+    u64 v468 = at(u64, v14 + 16);
+    u64 v469 = at(u64, v14 + 8);
+    if (!(v467 > (v468 - v469))) { v478 = v468; v479 = v469; goto v444; }
+    if (!std_alloc_vec_Vec_grow_amortized_1cf2(v14, v467)) goto v475;
+    v478 = at(u64, v14 + 16); v479 = at(u64, v14 + 8); goto v444;
 v475:;
-    u8x16 v479 = v478 | ((-(at(u8x16_1, (v458 + (i64)v469) + (i64)v476) & 1)));
-    u64 v477 = v476 + 16u;
-    if (!(v477 == 64u)) { v476 = v477; v478 = v479; goto v475; }
-    if (!(bits_u8x16(v479) == 0)) { v489 = v469; goto v461; }
-v471:;
-    u64 v470 = v469 + 64u;
-    if ((v459 - v470) < 64u) v489 = v470; else { v469 = v470; goto v468; }
-v461:;
-    if (v489 < v459) v492 = v489; else { v499 = v459; goto v465; }
+    __builtin_trap();
+    __builtin_trap();
+v444:;
+    u8 *v480 = at(ptr, v14);
+    memcpy_any(v480 + (i64)v479, v8, v467);
+    u64 v482 = v479 + v467;
+    at(ptr, v14) = v480;
+    at(u64, v14 + 8) = v482;
+    at(u64, v14 + 16) = v478;
+    if (v466 == 85u) { v442 = v443; goto v441; }
+    if (!(v378 > (v478 - v482))) { v495 = v480; v496 = v478; v497 = v482; goto v488; }
+    if (!std_alloc_vec_Vec_grow_amortized_1cf2(v14, v378)) goto v491;
+    v495 = at(ptr, v14); v496 = at(u64, v14 + 16); v497 = at(u64, v14 + 8); goto v488;
 v491:;
-    if (at(u8, v458 + v492) & 1) { v499 = v492; goto v465; }
-    u64 v493 = v492 + 1;
-    if (v493 == v459) v499 = v459; else { v492 = v493; goto v491; }
-v465:;
-    u16 v500 = (u16)v499;
-    if (v457 > v500) { v504 = v334; v507 = v337; v509 = v339; v511 = v500; v513 = v499; } else { v693 = v334; v694 = v337; v695 = v339; goto v503; }
-v502:;
-    u8 *v515 = at(ptr, v24 + 8);
-    if (!(at(u16, v515 + 64) > v511)) goto v520;
-    u8 *v526 = at(ptr_1, v515 + 32);
-    u8 *v528 = at(ptr_1, v515 + 48);
-    u64 v529 = (u64)v528;
-    u64 v530 = v513 & 65535u;
-    if (!(at(u8, v515 + 70) == 0)) goto v533;
-    u64 v534 = v530 << 1;
-    v555 = ((u64)bswap16(at(u16_1, v526 + (i64)v534))) << 1; v556 = ((u64)bswap16(at(u16_1, v526 + (i64)v534 + 2))) << 1; goto v545;
-v533:;
-    u64 v546 = v530 << 2;
-    v555 = (u64)bswap32(at(u32_1, v526 + (i64)v546)); v556 = (u64)bswap32(at(u32_1, v526 + (i64)v546 + 4));
-v545:;
-    u64 v558 = v556 - v555;
-    if (!(v558 > (v509 - v507))) { v569 = v504; v570 = v509; v571 = v507; goto v562; }
-    if (!std_alloc_vec_Vec_grow_amortized_1cf2(v13, v558)) goto v565;
-    v569 = at(ptr, v13); v570 = at(u64, v13 + 16); v571 = at(u64, v13 + 8); goto v562;
-v565:;
     __builtin_trap();
     __builtin_trap();
-v562:;
-    u64 v572 = (u64)v569;
-    memset(v13 + 8, 0, 16u);
-    if (!((((u64)(v569 + (i64)v571)) - ((u64)(v528 + (i64)v555))) < v558)) { v617 = v569 + (i64)v571; v618 = v569; v619 = v571; v620 = v570; v621 = v558; v622 = v528 + (i64)v555; goto v522; }
-    if (v558 < 4) { v615 = 0; goto v580; }
-    if (((v571 + v572) - (v555 + v529)) < 32u) { v615 = 0; goto v580; }
-    if (v558 < 16u) { v604 = 0; goto v588; }
-    u64 v590 = v558 & 12u;
-    u64 v591 = v558 & 0xfffffffffffffff0u;
-    v593 = 0;
-v592:;
-    at(u8x16_1, (v569 + (i64)v571) + v593) = at(u8x16_1, (v528 + (i64)v555) + v593);
-    u64 v594 = v593 + 16u;
-    if (!(v594 == v591)) { v593 = v594; goto v592; }
-    if (v558 == v591) { v629 = v569; v630 = v571; v631 = v570; v632 = v558; goto v601; }
-    if (v590 == 0) { v615 = v591; goto v580; }
-    v604 = v591;
-v588:;
-    u64 v605 = v558 & 0xfffffffffffffffcu;
-    v607 = v604;
-v606:;
-    at(u8x4_1, (v569 + (i64)v571) + v607) = at(u8x4_1, (v528 + (i64)v555) + v607);
-    u64 v608 = v607 + 4;
-    if (!(v608 == v605)) { v607 = v608; goto v606; }
-    if (v558 == v605) { v629 = v569; v630 = v571; v631 = v570; v632 = v558; goto v601; }
-    v615 = v605;
-v580:;
-    v623 = v615;
-v616:;
-    at(u8, (v569 + (i64)v571) + v623) = at(u8, (v528 + (i64)v555) + v623);
-    u64 v624 = v623 + 1;
-    if (v624 == v558) { v629 = v569; v630 = v571; v631 = v570; v632 = v558; goto v601; }
-    v623 = v624; goto v616;
-v520:;
-    memset(v13 + 8, 0, 16u);
-    v617 = v504 + (i64)v507; v618 = v504; v619 = v507; v620 = v509; v621 = 0; v622 = (u8 *)table_d0e67785;
-v522:;
-    memmove_any(v617, v622, v621);
-    v629 = v618; v630 = v619; v631 = v620; v632 = v621;
-v601:;
-    u64 v633 = v632 + v630;
-    at(ptr, v13) = v629;
-    at(u64, v13 + 8) = v633;
-    at(u64, v13 + 16) = v631;
-    u64 v635 = ((u64)0 - v632) & 3;
-    if (!(v635 > (v631 - v633))) { v505 = v629; v510 = v631; v646 = v633; goto v639; }
-    if (!std_alloc_vec_Vec_grow_amortized_1cf2(v13, v635)) goto v642;
-    v505 = at(ptr, v13); v510 = at(u64, v13 + 16); v646 = at(u64, v13 + 8); goto v639;
-v642:;
+v488:;
+    u64 v498 = (u64)v495;
+    memset(v14 + 8, 0, 16u);
+    if (!((((u64)(v495 + (i64)v497)) - ((u64)v377)) < v378)) goto v505;
+    if (v378 < 4) { v541 = 0; goto v507; }
+    if (((v497 + v498) - v379) < 32u) { v541 = 0; goto v507; }
+    if (v378 < 16u) { v530 = 0; goto v514; }
+    u64 v516 = v378 & 12u;
+    u64 v517 = v378 & 0xfffffffffffffff0u;
+    v519 = 0;
+v518:;
+    at(u8x16_1, (v495 + (i64)v497) + v519) = at(u8x16_1, v377 + v519);
+    u64 v520 = v519 + 16u;
+    if (!(v520 == v517)) { v519 = v520; goto v518; }
+    if (v378 == v517) goto v527;
+    if (v516 == 0) { v541 = v517; goto v507; }
+    v530 = v517;
+v514:;
+    u64 v531 = v378 & 0xfffffffffffffffcu;
+    v533 = v530;
+v532:;
+    at(u8x4_1, (v495 + (i64)v497) + v533) = at(u8x4_1, v377 + v533);
+    u64 v534 = v533 + 4;
+    if (!(v534 == v531)) { v533 = v534; goto v532; }
+    if (v378 == v531) goto v527;
+    v541 = v531;
+v507:;
+    v543 = v541;
+v542:;
+    at(u8, (v495 + (i64)v497) + v543) = at(u8, v377 + v543);
+    u64 v544 = v543 + 1;
+    if (v544 == v378) goto v527;
+    v543 = v544; goto v542;
+v505:;
+    memmove_any(v495 + (i64)v497, v377, v378);
+v527:;
+    u64 v549 = v497 + v378;
+    at(ptr, v14) = v495;
+    at(u64, v14 + 8) = v549;
+    at(u64, v14 + 16) = v496;
+    v1225 = v549; v1226 = v496; goto v550;
+v353:;
+    u8 v551 = at(u8, v18);
+    u64 v552 = at(u64, v18 + 368);
+    u16 v555 = at(u16, at(ptr, v25 + 8) + 64);
+    u8 *v556 = at(ptr, v25 + 168);
+    u64 v557 = at(u64, v25 + 176);
+    if (v557 == 0) { v587 = 0; goto v559; }
+    if (at(u8, v556) & 1) { v597 = 0; goto v563; }
+    if (v557 < 64u) { v587 = 0; goto v559; }
+    v567 = 0;
+v566:;
+    if (v567 == 0xffffffffffffffc0u) goto v569;
+    v574 = 0; v576 = (u8x16){0};
+v573:;
+    u8x16 v577 = v576 | ((-(at(u8x16_1, (v556 + (i64)v567) + (i64)v574) & 1)));
+    u64 v575 = v574 + 16u;
+    if (!(v575 == 64u)) { v574 = v575; v576 = v577; goto v573; }
+    if (!(bits_u8x16(v577) == 0)) { v587 = v567; goto v559; }
+v569:;
+    u64 v568 = v567 + 64u;
+    if ((v557 - v568) < 64u) v587 = v568; else { v567 = v568; goto v566; }
+v559:;
+    if (v587 < v557) v590 = v587; else { v597 = v557; goto v563; }
+v589:;
+    if (at(u8, v556 + v590) & 1) { v597 = v590; goto v563; }
+    u64 v591 = v590 + 1;
+    if (v591 == v557) v597 = v557; else { v590 = v591; goto v589; }
+v563:;
+    u16 v598 = (u16)v597;
+    if (v555 > v598) { v602 = v339; v605 = v342; v607 = v344; v609 = v598; v611 = v597; } else { v791 = v339; v792 = v342; v793 = v344; goto v601; }
+v600:;
+    u8 *v613 = at(ptr, v25 + 8);
+    if (!(at(u16, v613 + 64) > v609)) goto v618;
+    u8 *v624 = at(ptr_1, v613 + 32);
+    u8 *v626 = at(ptr_1, v613 + 48);
+    u64 v627 = (u64)v626;
+    u64 v628 = v611 & 65535u;
+    if (!(at(u8, v613 + 70) == 0)) goto v631;
+    u64 v632 = v628 << 1;
+    v653 = ((u64)bswap16(at(u16_1, v624 + (i64)v632))) << 1; v654 = ((u64)bswap16(at(u16_1, v624 + (i64)v632 + 2))) << 1; goto v643;
+v631:;
+    u64 v644 = v628 << 2;
+    v653 = (u64)bswap32(at(u32_1, v624 + (i64)v644)); v654 = (u64)bswap32(at(u32_1, v624 + (i64)v644 + 4));
+v643:;
+    u64 v656 = v654 - v653;
+    if (!(v656 > (v607 - v605))) { v667 = v602; v668 = v607; v669 = v605; goto v660; }
+    if (!std_alloc_vec_Vec_grow_amortized_1cf2(v14, v656)) goto v663;
+    v667 = at(ptr, v14); v668 = at(u64, v14 + 16); v669 = at(u64, v14 + 8); goto v660;
+v663:;
     __builtin_trap();
     __builtin_trap();
-v639:;
-    memset_any(v505 + (i64)v646, 0, v635);
-    u64 v508 = v646 + v635;
-    at(ptr, v13) = v505;
-    at(u64, v13 + 8) = v508;
-    at(u64, v13 + 16) = v510;
-    u64 v649 = (v513 + 1) & 65535u;
-    u8 *v650 = at(ptr, v24 + 168);
-    u64 v651 = at(u64, v24 + 176);
-    if (!(v651 > v649)) goto v654;
-    if (at(u8, v650 + v649) & 1) { v514 = v649; goto v506; }
-v654:;
-    if ((v651 - v649) < 64u) { v682 = v649; goto v660; }
-    v662 = v649;
-v661:;
-    if (!(v662 < 0xffffffffffffffc0u)) goto v664;
-    v669 = 0; v671 = (u8x16){0};
-v668:;
-    u8x16 v672 = v671 | ((-(at(u8x16_1, (v650 + (i64)v662) + (i64)v669) & 1)));
-    u64 v670 = v669 + 16u;
-    if (!(v670 == 64u)) { v669 = v670; v671 = v672; goto v668; }
-    if (!(bits_u8x16(v672) == 0)) { v682 = v662; goto v660; }
-v664:;
-    u64 v663 = v662 + 64u;
-    if ((v651 - v663) < 64u) v682 = v663; else { v662 = v663; goto v661; }
 v660:;
-    if (v682 < v651) v685 = v682; else { v514 = v651; goto v506; }
-v684:;
-    if (at(u8, v650 + v685) & 1) { v514 = v685; goto v506; }
-    u64 v686 = v685 + 1;
-    if (v686 == v651) v514 = v651; else { v685 = v686; goto v684; }
-v506:;
-    u16 v512 = (u16)v514;
-    if (v457 > v512) { v504 = v505; v507 = v508; v509 = v510; v511 = v512; v513 = v514; goto v502; }
-    v693 = v505; v694 = v508; v695 = v510;
-v503:;
-    u64 v699 = (v453 == 0) ? 0 : ((v454 == 0) ? 4 : 0);
-    if (!(v699 > (v695 - v694))) { v710 = v693; v711 = v695; v712 = v694; goto v703; }
-    if (!std_alloc_vec_Vec_grow_amortized_1cf2(v13, v699)) goto v706;
-    v710 = at(ptr, v13); v711 = at(u64, v13 + 16); v712 = at(u64, v13 + 8); goto v703;
-v706:;
+    u64 v670 = (u64)v667;
+    memset(v14 + 8, 0, 16u);
+    if (!((((u64)(v667 + (i64)v669)) - ((u64)(v626 + (i64)v653))) < v656)) { v715 = v667 + (i64)v669; v716 = v667; v717 = v669; v718 = v668; v719 = v656; v720 = v626 + (i64)v653; goto v620; }
+    if (v656 < 4) { v713 = 0; goto v678; }
+    if (((v669 + v670) - (v653 + v627)) < 32u) { v713 = 0; goto v678; }
+    if (v656 < 16u) { v702 = 0; goto v686; }
+    u64 v688 = v656 & 12u;
+    u64 v689 = v656 & 0xfffffffffffffff0u;
+    v691 = 0;
+v690:;
+    at(u8x16_1, (v667 + (i64)v669) + v691) = at(u8x16_1, (v626 + (i64)v653) + v691);
+    u64 v692 = v691 + 16u;
+    if (!(v692 == v689)) { v691 = v692; goto v690; }
+    if (v656 == v689) { v727 = v667; v728 = v669; v729 = v668; v730 = v656; goto v699; }
+    if (v688 == 0) { v713 = v689; goto v678; }
+    v702 = v689;
+v686:;
+    u64 v703 = v656 & 0xfffffffffffffffcu;
+    v705 = v702;
+v704:;
+    at(u8x4_1, (v667 + (i64)v669) + v705) = at(u8x4_1, (v626 + (i64)v653) + v705);
+    u64 v706 = v705 + 4;
+    if (!(v706 == v703)) { v705 = v706; goto v704; }
+    if (v656 == v703) { v727 = v667; v728 = v669; v729 = v668; v730 = v656; goto v699; }
+    v713 = v703;
+v678:;
+    v721 = v713;
+v714:;
+    at(u8, (v667 + (i64)v669) + v721) = at(u8, (v626 + (i64)v653) + v721);
+    u64 v722 = v721 + 1;
+    if (v722 == v656) { v727 = v667; v728 = v669; v729 = v668; v730 = v656; goto v699; }
+    v721 = v722; goto v714;
+v618:;
+    memset(v14 + 8, 0, 16u);
+    v715 = v602 + (i64)v605; v716 = v602; v717 = v605; v718 = v607; v719 = 0; v720 = (u8 *)table_55ba7287;
+v620:;
+    memmove_any(v715, v720, v719);
+    v727 = v716; v728 = v717; v729 = v718; v730 = v719;
+v699:;
+    u64 v731 = v730 + v728;
+    at(ptr, v14) = v727;
+    at(u64, v14 + 8) = v731;
+    at(u64, v14 + 16) = v729;
+    u64 v733 = ((u64)0 - v730) & 3;
+    if (!(v733 > (v729 - v731))) { v603 = v727; v608 = v729; v744 = v731; goto v737; }
+    if (!std_alloc_vec_Vec_grow_amortized_1cf2(v14, v733)) goto v740;
+    v603 = at(ptr, v14); v608 = at(u64, v14 + 16); v744 = at(u64, v14 + 8); goto v737;
+v740:;
     __builtin_trap();
     __builtin_trap();
-v703:;
-    memset_any(v710 + (i64)v712, 0, v699);
-    u64 v714 = v712 + v699;
-    at(ptr, v13) = v710;
-    at(u64, v13 + 8) = v714;
-    at(u64, v13 + 16) = v711;
-    v1127 = v714; v1128 = v711; goto v452;
-v349:;
-    u32 v715 = at(u32, v17 + 376);
-    u8 *v717 = at(ptr_1, at(ptr, v24 + 8));
-    u16 v719 = at(u16_1, v717 + 4);
-    u64 v721 = (u64)bswap16(v719);
-    if (v719 == 0) { v757 = (u8 *)table_d0e67785; v758 = 0xffffffffffffffccu; goto v723; }
-    v727 = 0;
-v724:;
-    u64 v729 = v727 << 4;
-    if (!((((at(u8, v717 + (i64)v729 + 12) == 104u) & (at(u8, v717 + (i64)v729 + 13) == 101u)) & (at(u8, v717 + (i64)v729 + 14) == 97u)) & (at(u8, v717 + (i64)v729 + 15) == 100u))) goto v725;
-    v757 = v717 + (i64)((u64)bswap32(at(u32_1, v717 + (i64)v729 + 20))); v758 = ((u64)bswap32(at(u32_1, v717 + (i64)v729 + 24))) - 52u; goto v723;
-v725:;
-    u64 v726 = v727 + 1;
-    if (v726 == v721) { v757 = (u8 *)table_d0e67785; v758 = 0xffffffffffffffccu; } else { v727 = v726; goto v724; }
-v723:;
-    u64 v759 = (u64)v757;
-    if (!((v339 - v337) < 8)) { v770 = v334; v771 = v339; v772 = v337; goto v763; }
-    if (!std_alloc_vec_Vec_grow_amortized_1cf2(v13, 8)) goto v766;
-    v770 = at(ptr, v13); v771 = at(u64, v13 + 16); v772 = at(u64, v13 + 8); goto v763;
+v737:;
+    memset_any(v603 + (i64)v744, 0, v733);
+    u64 v606 = v744 + v733;
+    at(ptr, v14) = v603;
+    at(u64, v14 + 8) = v606;
+    at(u64, v14 + 16) = v608;
+    u64 v747 = (v611 + 1) & 65535u;
+    u8 *v748 = at(ptr, v25 + 168);
+    u64 v749 = at(u64, v25 + 176);
+    if (!(v749 > v747)) goto v752;
+    if (at(u8, v748 + v747) & 1) { v612 = v747; goto v604; }
+v752:;
+    if ((v749 - v747) < 64u) { v780 = v747; goto v758; }
+    v760 = v747;
+v759:;
+    if (!(v760 < 0xffffffffffffffc0u)) goto v762;
+    v767 = 0; v769 = (u8x16){0};
 v766:;
+    u8x16 v770 = v769 | ((-(at(u8x16_1, (v748 + (i64)v760) + (i64)v767) & 1)));
+    u64 v768 = v767 + 16u;
+    if (!(v768 == 64u)) { v767 = v768; v769 = v770; goto v766; }
+    if (!(bits_u8x16(v770) == 0)) { v780 = v760; goto v758; }
+v762:;
+    u64 v761 = v760 + 64u;
+    if ((v749 - v761) < 64u) v780 = v761; else { v760 = v761; goto v759; }
+v758:;
+    if (v780 < v749) v783 = v780; else { v612 = v749; goto v604; }
+v782:;
+    if (at(u8, v748 + v783) & 1) { v612 = v783; goto v604; }
+    u64 v784 = v783 + 1;
+    if (v784 == v749) v612 = v749; else { v783 = v784; goto v782; }
+v604:;
+    u16 v610 = (u16)v612;
+    if (v555 > v610) { v602 = v603; v605 = v606; v607 = v608; v609 = v610; v611 = v612; goto v600; }
+    v791 = v603; v792 = v606; v793 = v608;
+v601:;
+    u64 v797 = (v551 == 0) ? 0 : ((v552 == 0) ? 4 : 0);
+    if (!(v797 > (v793 - v792))) { v808 = v791; v809 = v793; v810 = v792; goto v801; }
+    if (!std_alloc_vec_Vec_grow_amortized_1cf2(v14, v797)) goto v804;
+    v808 = at(ptr, v14); v809 = at(u64, v14 + 16); v810 = at(u64, v14 + 8); goto v801;
+v804:;
     __builtin_trap();
     __builtin_trap();
-v763:;
-    memset(v13 + 8, 0, 16u);
-    if ((((u64)(v770 + (i64)v772)) - ((u64)v757)) < 8) v782 = 0; else goto v779;
-v778:;
-    at(u8, (v770 + (i64)v772) + v782) = at(u8, v757 + v782);
-    u64 v783 = v782 + 1;
-    if (v783 == 8) goto v781;
-    v782 = v783; goto v778;
-v779:;
-    at(u64_1, v770 + (i64)v772) = at(u64_1, v757);
-v781:;
-    u64 v788 = v772 + 8;
-    at(ptr, v13) = v770;
-    at(u64, v13 + 8) = v788;
-    at(u64, v13 + 16) = v771;
-    if (!((v771 - v788) < 4)) { v799 = v770; v800 = v771; v801 = v788; goto v792; }
-    if (!std_alloc_vec_Vec_grow_amortized_1cf2(v13, 4)) goto v795;
-    v799 = at(ptr, v13); v800 = at(u64, v13 + 16); v801 = at(u64, v13 + 8); goto v792;
-v795:;
+v801:;
+    memset_any(v808 + (i64)v810, 0, v797);
+    u64 v812 = v810 + v797;
+    at(ptr, v14) = v808;
+    at(u64, v14 + 8) = v812;
+    at(u64, v14 + 16) = v809;
+    v1225 = v812; v1226 = v809; goto v550;
+v354:;
+    u32 v813 = at(u32, v18 + 376);
+    u8 *v815 = at(ptr_1, at(ptr, v25 + 8));
+    u16 v817 = at(u16_1, v815 + 4);
+    u64 v819 = (u64)bswap16(v817);
+    if (v817 == 0) { v855 = (u8 *)table_55ba7287; v856 = 0xffffffffffffffccu; goto v821; }
+    v825 = 0;
+v822:;
+    u64 v827 = v825 << 4;
+    if (!((((at(u8, v815 + (i64)v827 + 12) == 104u) & (at(u8, v815 + (i64)v827 + 13) == 101u)) & (at(u8, v815 + (i64)v827 + 14) == 97u)) & (at(u8, v815 + (i64)v827 + 15) == 100u))) goto v823;
+    v855 = v815 + (i64)((u64)bswap32(at(u32_1, v815 + (i64)v827 + 20))); v856 = ((u64)bswap32(at(u32_1, v815 + (i64)v827 + 24))) - 52u; goto v821;
+v823:;
+    u64 v824 = v825 + 1;
+    if (v824 == v819) { v855 = (u8 *)table_55ba7287; v856 = 0xffffffffffffffccu; } else { v825 = v824; goto v822; }
+v821:;
+    u64 v857 = (u64)v855;
+    if (!((v344 - v342) < 8)) { v868 = v339; v869 = v344; v870 = v342; goto v861; }
+    if (!std_alloc_vec_Vec_grow_amortized_1cf2(v14, 8)) goto v864;
+    v868 = at(ptr, v14); v869 = at(u64, v14 + 16); v870 = at(u64, v14 + 8); goto v861;
+v864:;
     __builtin_trap();
     __builtin_trap();
-v792:;
-    at(u32_1, v799 + (i64)v801) = bswap32(v715);
-    u64 v804 = v801 + 4;
-    at(ptr, v13) = v799;
-    at(u64, v13 + 8) = v804;
-    at(u64, v13 + 16) = v800;
-    if (!((v800 - v804) < 38u)) { v816 = v799; v817 = v800; v818 = v804; goto v809; }
-    if (!std_alloc_vec_Vec_grow_amortized_1cf2(v13, 38u)) goto v812;
-    v816 = at(ptr, v13); v817 = at(u64, v13 + 16); v818 = at(u64, v13 + 8); goto v809;
-v812:;
+v861:;
+    memset(v14 + 8, 0, 16u);
+    if ((((u64)(v868 + (i64)v870)) - ((u64)v855)) < 8) v880 = 0; else goto v877;
+v876:;
+    at(u8, (v868 + (i64)v870) + v880) = at(u8, v855 + v880);
+    u64 v881 = v880 + 1;
+    if (v881 == 8) goto v879;
+    v880 = v881; goto v876;
+v877:;
+    at(u64_1, v868 + (i64)v870) = at(u64_1, v855);
+v879:;
+    u64 v886 = v870 + 8;
+    at(ptr, v14) = v868;
+    at(u64, v14 + 8) = v886;
+    at(u64, v14 + 16) = v869;
+    if (!((v869 - v886) < 4)) { v897 = v868; v898 = v869; v899 = v886; goto v890; }
+    if (!std_alloc_vec_Vec_grow_amortized_1cf2(v14, 4)) goto v893;
+    v897 = at(ptr, v14); v898 = at(u64, v14 + 16); v899 = at(u64, v14 + 8); goto v890;
+v893:;
     __builtin_trap();
     __builtin_trap();
-v809:;
-    memset(v13 + 8, 0, 16u);
-    if (!((((u64)(v816 + (i64)v818)) - ((u64)(v757 + 12))) < 38u)) goto v825;
-    if ((((v818 - 12u) + ((u64)v816)) - v759) < 32u) { v833 = 0; goto v831; }
-    v836 = 0;
-v832:;
-    at(u8x16_1, (v816 + (i64)v818) + v836) = at(u8x16_1, (v757 + 12) + v836);
-    u64 v837 = v836 + 16u;
-    if (v837 == 32u) v842 = 32u; else { v836 = v837; goto v832; }
-v834:;
-    at(u8x4_1, (v816 + (i64)v818) + v842) = at(u8x4_1, (v757 + 12) + v842);
-    u64 v843 = v842 + 4;
-    if (v843 == 36u) v833 = 36u; else { v842 = v843; goto v834; }
-v831:;
-    v849 = v833;
-v835:;
-    at(u8, (v816 + (i64)v818) + v849) = at(u8, (v757 + 12) + v849);
-    u64 v850 = v849 + 1;
-    if (v850 == 38u) goto v848;
-    v849 = v850; goto v835;
-v825:;
-    memmove(v816 + (i64)v818, v757 + 12, 38u);
-v848:;
-    u64 v855 = v818 + 38u;
-    at(ptr, v13) = v816;
-    at(u64, v13 + 8) = v855;
-    at(u64, v13 + 16) = v817;
-    if (!((v817 - v855) < 2)) { v866 = v816; v867 = v817; v868 = v855; goto v859; }
-    if (!std_alloc_vec_Vec_grow_amortized_1cf2(v13, 2)) goto v862;
-    v866 = at(ptr, v13); v867 = at(u64, v13 + 16); v868 = at(u64, v13 + 8); goto v859;
-v862:;
-    __builtin_trap();
-    __builtin_trap();
-v859:;
-    if ((((u64)(v866 + (i64)v868)) - ((u64)(u8 *)table_87e6e93c)) < 2) v876 = 0; else goto v874;
-v873:;
-    at(u8, (v866 + (i64)v868) + v876) = at(u8, (u8 *)table_87e6e93c + v876);
-    u64 v877 = v876 + 1;
-    if (v877 == 2) goto v875;
-    v876 = v877; goto v873;
-v874:;
-    at(u16_1, v866 + (i64)v868) = 256u;
-v875:;
-    u64 v882 = v868 + 2;
-    at(ptr, v13) = v866;
-    at(u64, v13 + 8) = v882;
-    at(u64, v13 + 16) = v867;
-    if (!(v758 > (v867 - v882))) { v894 = v866; v895 = v867; v896 = v882; goto v887; }
-    if (!std_alloc_vec_Vec_grow_amortized_1cf2(v13, v758)) goto v890;
-    v894 = at(ptr, v13); v895 = at(u64, v13 + 16); v896 = at(u64, v13 + 8); goto v887;
 v890:;
+    at(u32_1, v897 + (i64)v899) = bswap32(v813);
+    u64 v902 = v899 + 4;
+    at(ptr, v14) = v897;
+    at(u64, v14 + 8) = v902;
+    at(u64, v14 + 16) = v898;
+    if (!((v898 - v902) < 38u)) { v914 = v897; v915 = v898; v916 = v902; goto v907; }
+    if (!std_alloc_vec_Vec_grow_amortized_1cf2(v14, 38u)) goto v910;
+    v914 = at(ptr, v14); v915 = at(u64, v14 + 16); v916 = at(u64, v14 + 8); goto v907;
+v910:;
     __builtin_trap();
     __builtin_trap();
-v887:;
-    u64 v897 = (u64)v894;
-    memset(v13 + 8, 0, 16u);
-    if (!((((u64)(v894 + (i64)v896)) - ((u64)(v757 + 52))) < v758)) goto v904;
-    if (v758 < 4) { v941 = 0; goto v906; }
-    if ((((v896 - 52u) + v897) - v759) < 32u) { v941 = 0; goto v906; }
-    if (v758 < 16u) { v930 = 0; goto v914; }
-    u64 v916 = v758 & 12u;
-    u64 v917 = v758 & 0xfffffffffffffff0u;
-    v919 = 0;
-v918:;
-    at(u8x16_1, (v894 + (i64)v896) + v919) = at(u8x16_1, (v757 + 52) + v919);
-    u64 v920 = v919 + 16u;
-    if (!(v920 == v917)) { v919 = v920; goto v918; }
-    if (v758 == v917) goto v927;
-    if (v916 == 0) { v941 = v917; goto v906; }
-    v930 = v917;
-v914:;
-    u64 v931 = v758 & 0xfffffffffffffffcu;
-    v933 = v930;
+v907:;
+    memset(v14 + 8, 0, 16u);
+    if (!((((u64)(v914 + (i64)v916)) - ((u64)(v855 + 12))) < 38u)) goto v923;
+    if ((((v916 - 12u) + ((u64)v914)) - v857) < 32u) { v931 = 0; goto v929; }
+    v934 = 0;
+v930:;
+    at(u8x16_1, (v914 + (i64)v916) + v934) = at(u8x16_1, (v855 + 12) + v934);
+    u64 v935 = v934 + 16u;
+    if (v935 == 32u) v940 = 32u; else { v934 = v935; goto v930; }
 v932:;
-    at(u8x4_1, (v894 + (i64)v896) + v933) = at(u8x4_1, (v757 + 52) + v933);
-    u64 v934 = v933 + 4;
-    if (!(v934 == v931)) { v933 = v934; goto v932; }
-    if (v758 == v931) goto v927;
-    v941 = v931;
-v906:;
-    v943 = v941;
-v942:;
-    at(u8, (v894 + (i64)v896) + v943) = at(u8, (v757 + 52) + v943);
-    u64 v944 = v943 + 1;
-    if (v944 == v758) goto v927;
-    v943 = v944; goto v942;
-v904:;
-    memmove_any(v894 + (i64)v896, v757 + 52, v758);
-v927:;
-    u64 v949 = v896 + v758;
-    at(ptr, v13) = v894;
-    at(u64, v13 + 8) = v949;
-    at(u64, v13 + 16) = v895;
-    v1127 = v949; v1128 = v895; goto v452;
-v350:;
-    memset(v5, 0, 1024u);
-    u8 *v950 = at(ptr, v24 + 168);
-    u64 v951 = at(u64, v24 + 176);
-    if (v951 == 0) { v981 = 0; goto v953; }
-    if (at(u8, v950) & 1) { v991 = 0; goto v957; }
-    if (v951 < 64u) { v981 = 0; goto v953; }
-    v961 = 0;
+    at(u8x4_1, (v914 + (i64)v916) + v940) = at(u8x4_1, (v855 + 12) + v940);
+    u64 v941 = v940 + 4;
+    if (v941 == 36u) v931 = 36u; else { v940 = v941; goto v932; }
+v929:;
+    v947 = v931;
+v933:;
+    at(u8, (v914 + (i64)v916) + v947) = at(u8, (v855 + 12) + v947);
+    u64 v948 = v947 + 1;
+    if (v948 == 38u) goto v946;
+    v947 = v948; goto v933;
+v923:;
+    memmove(v914 + (i64)v916, v855 + 12, 38u);
+v946:;
+    u64 v953 = v916 + 38u;
+    at(ptr, v14) = v914;
+    at(u64, v14 + 8) = v953;
+    at(u64, v14 + 16) = v915;
+    if (!((v915 - v953) < 2)) { v964 = v914; v965 = v915; v966 = v953; goto v957; }
+    if (!std_alloc_vec_Vec_grow_amortized_1cf2(v14, 2)) goto v960;
+    v964 = at(ptr, v14); v965 = at(u64, v14 + 16); v966 = at(u64, v14 + 8); goto v957;
 v960:;
-    if (v961 == 0xffffffffffffffc0u) goto v963;
-    v968 = 0; v970 = (u8x16){0};
-v967:;
-    u8x16 v971 = v970 | ((-(at(u8x16_1, (v950 + (i64)v961) + (i64)v968) & 1)));
-    u64 v969 = v968 + 16u;
-    if (!(v969 == 64u)) { v968 = v969; v970 = v971; goto v967; }
-    if (!(bits_u8x16(v971) == 0)) { v981 = v961; goto v953; }
-v963:;
-    u64 v962 = v961 + 64u;
-    if ((v951 - v962) < 64u) v981 = v962; else { v961 = v962; goto v960; }
-v953:;
-    if (v981 < v951) v984 = v981; else { v991 = v951; goto v957; }
-v983:;
-    if (at(u8, v950 + v984) & 1) { v991 = v984; goto v957; }
-    u64 v985 = v984 + 1;
-    if (v985 == v951) v991 = v951; else { v984 = v985; goto v983; }
+    __builtin_trap();
+    __builtin_trap();
 v957:;
-    u16 v992 = (u16)v991;
-    u16 v995 = at(u16, at(ptr, v24 + 8) + 64);
-    if (!((v339 - v337) < 4)) { v1006 = v334; v1007 = v339; v1008 = v337; goto v999; }
-    if (!std_alloc_vec_Vec_grow_amortized_1cf2(v13, 4)) goto v1002;
-    v1006 = at(ptr, v13); v1007 = at(u64, v13 + 16); v1008 = at(u64, v13 + 8); goto v999;
-v1002:;
+    if ((((u64)(v964 + (i64)v966)) - ((u64)(u8 *)table_87e6e93c)) < 2) v974 = 0; else goto v972;
+v971:;
+    at(u8, (v964 + (i64)v966) + v974) = at(u8, (u8 *)table_87e6e93c + v974);
+    u64 v975 = v974 + 1;
+    if (v975 == 2) goto v973;
+    v974 = v975; goto v971;
+v972:;
+    at(u16_1, v964 + (i64)v966) = 256u;
+v973:;
+    u64 v980 = v966 + 2;
+    at(ptr, v14) = v964;
+    at(u64, v14 + 8) = v980;
+    at(u64, v14 + 16) = v965;
+    if (!(v856 > (v965 - v980))) { v992 = v964; v993 = v965; v994 = v980; goto v985; }
+    if (!std_alloc_vec_Vec_grow_amortized_1cf2(v14, v856)) goto v988;
+    v992 = at(ptr, v14); v993 = at(u64, v14 + 16); v994 = at(u64, v14 + 8); goto v985;
+v988:;
     __builtin_trap();
     __builtin_trap();
-v999:;
-    at(u32_1, v1006 + (i64)v1008) = 0;
-    u64 v1010 = v1008 + 4;
-    at(ptr, v13) = v1006;
-    at(u64, v13 + 8) = v1010;
-    at(u64, v13 + 16) = v1007;
-    if (v995 == 0) { v1050 = v1010; v1051 = v1007; goto v1012; }
-    v1014 = v1006; v1017 = v1010; v1019 = v1007; v1021 = 0; v1023 = v992; v1025 = 0;
-v1013:;
-    u16 v1028 = umin16((u16)(v995 - v1025), 256u);
-    u16 v1026 = (u16)(v1028 + v1025);
-    u32_u16 v1029 = font_write_made_loca_gather_offsets(v24, v1025, v1026, v1021, v1023, v5);
-    u64 v1031 = (u64)((u16)((u32)v1028 << 2));
-    if (!((v1019 - v1017) < v1031)) { v1015 = v1014; v1020 = v1019; v1042 = v1017; goto v1035; }
-    if (!std_alloc_vec_Vec_grow_amortized_1cf2(v13, v1031)) goto v1038;
-    v1015 = at(ptr, v13); v1020 = at(u64, v13 + 16); v1042 = at(u64, v13 + 8); goto v1035;
-v1038:;
-    __builtin_trap();
-    __builtin_trap();
-v1035:;
-    if (!((((u64)(v1015 + (i64)v1042)) - v294) < v1031)) goto v1048;
-    memcpy_any(v1015 + (i64)v1042, v5, v1031);
-    goto v1016;
-v1048:;
-    memmove_any(v1015 + (i64)v1042, v5, v1031);
+v985:;
+    u64 v995 = (u64)v992;
+    memset(v14 + 8, 0, 16u);
+    if (!((((u64)(v992 + (i64)v994)) - ((u64)(v855 + 52))) < v856)) goto v1002;
+    if (v856 < 4) { v1039 = 0; goto v1004; }
+    if ((((v994 - 52u) + v995) - v857) < 32u) { v1039 = 0; goto v1004; }
+    if (v856 < 16u) { v1028 = 0; goto v1012; }
+    u64 v1014 = v856 & 12u;
+    u64 v1015 = v856 & 0xfffffffffffffff0u;
+    v1017 = 0;
 v1016:;
-    u64 v1018 = v1042 + v1031;
-    at(ptr, v13) = v1015;
-    at(u64, v13 + 8) = v1018;
-    at(u64, v13 + 16) = v1020;
-    if (v1026 < v995) { v1014 = v1015; v1017 = v1018; v1019 = v1020; v1021 = v1029._0; v1023 = v1029._1; v1025 = v1026; goto v1013; }
-    v1050 = v1018; v1051 = v1020;
+    at(u8x16_1, (v992 + (i64)v994) + v1017) = at(u8x16_1, (v855 + 52) + v1017);
+    u64 v1018 = v1017 + 16u;
+    if (!(v1018 == v1015)) { v1017 = v1018; goto v1016; }
+    if (v856 == v1015) goto v1025;
+    if (v1014 == 0) { v1039 = v1015; goto v1004; }
+    v1028 = v1015;
 v1012:;
-    v1127 = v1050; v1128 = v1051;
-v452:;
-    u64 v1135 = (u64)(((u32)0 - at(u32, v17 + (i64)(v341 * 12u) + 8)) & 3);
-    if (!((v1128 - v1127) < v1135)) { v340 = v1128; v1144 = v1127; goto v336; }
-    if (!std_alloc_vec_Vec_grow_amortized_1cf2(v13, v1135)) goto v1141;
-    v340 = at(u64, v13 + 16); v1144 = at(u64, v13 + 8); goto v336;
-v1141:;
+    u64 v1029 = v856 & 0xfffffffffffffffcu;
+    v1031 = v1028;
+v1030:;
+    at(u8x4_1, (v992 + (i64)v994) + v1031) = at(u8x4_1, (v855 + 52) + v1031);
+    u64 v1032 = v1031 + 4;
+    if (!(v1032 == v1029)) { v1031 = v1032; goto v1030; }
+    if (v856 == v1029) goto v1025;
+    v1039 = v1029;
+v1004:;
+    v1041 = v1039;
+v1040:;
+    at(u8, (v992 + (i64)v994) + v1041) = at(u8, (v855 + 52) + v1041);
+    u64 v1042 = v1041 + 1;
+    if (v1042 == v856) goto v1025;
+    v1041 = v1042; goto v1040;
+v1002:;
+    memmove_any(v992 + (i64)v994, v855 + 52, v856);
+v1025:;
+    u64 v1047 = v994 + v856;
+    at(ptr, v14) = v992;
+    at(u64, v14 + 8) = v1047;
+    at(u64, v14 + 16) = v993;
+    v1225 = v1047; v1226 = v993; goto v550;
+v355:;
+    memset(v6, 0, 1024u);
+    u8 *v1048 = at(ptr, v25 + 168);
+    u64 v1049 = at(u64, v25 + 176);
+    if (v1049 == 0) { v1079 = 0; goto v1051; }
+    if (at(u8, v1048) & 1) { v1089 = 0; goto v1055; }
+    if (v1049 < 64u) { v1079 = 0; goto v1051; }
+    v1059 = 0;
+v1058:;
+    if (v1059 == 0xffffffffffffffc0u) goto v1061;
+    v1066 = 0; v1068 = (u8x16){0};
+v1065:;
+    u8x16 v1069 = v1068 | ((-(at(u8x16_1, (v1048 + (i64)v1059) + (i64)v1066) & 1)));
+    u64 v1067 = v1066 + 16u;
+    if (!(v1067 == 64u)) { v1066 = v1067; v1068 = v1069; goto v1065; }
+    if (!(bits_u8x16(v1069) == 0)) { v1079 = v1059; goto v1051; }
+v1061:;
+    u64 v1060 = v1059 + 64u;
+    if ((v1049 - v1060) < 64u) v1079 = v1060; else { v1059 = v1060; goto v1058; }
+v1051:;
+    if (v1079 < v1049) v1082 = v1079; else { v1089 = v1049; goto v1055; }
+v1081:;
+    if (at(u8, v1048 + v1082) & 1) { v1089 = v1082; goto v1055; }
+    u64 v1083 = v1082 + 1;
+    if (v1083 == v1049) v1089 = v1049; else { v1082 = v1083; goto v1081; }
+v1055:;
+    u16 v1090 = (u16)v1089;
+    u16 v1093 = at(u16, at(ptr, v25 + 8) + 64);
+    if (!((v344 - v342) < 4)) { v1104 = v339; v1105 = v344; v1106 = v342; goto v1097; }
+    if (!std_alloc_vec_Vec_grow_amortized_1cf2(v14, 4)) goto v1100;
+    v1104 = at(ptr, v14); v1105 = at(u64, v14 + 16); v1106 = at(u64, v14 + 8); goto v1097;
+v1100:;
     __builtin_trap();
     __builtin_trap();
-v336:;
-    u8 *v335 = at(ptr, v13);
-    memset_any(v335 + (i64)v1144, 0, v1135);
-    u64 v338 = v1144 + v1135;
-    at(ptr, v13) = v335;
-    at(u64, v13 + 8) = v338;
-    at(u64, v13 + 16) = v340;
-    u64 v342 = v341 + 1;
-    if (!(v342 == 29u)) { v334 = v335; v337 = v338; v339 = v340; v341 = v342; goto v333; }
-    v1150 = 0; v1151 = (u64)v335; v1152 = v338; v1153 = v340; goto v1148;
+v1097:;
+    at(u32_1, v1104 + (i64)v1106) = 0;
+    u64 v1108 = v1106 + 4;
+    at(ptr, v14) = v1104;
+    at(u64, v14 + 8) = v1108;
+    at(u64, v14 + 16) = v1105;
+    if (v1093 == 0) { v1148 = v1108; v1149 = v1105; goto v1110; }
+    v1112 = v1104; v1115 = v1108; v1117 = v1105; v1119 = 0; v1121 = v1090; v1123 = 0;
+v1111:;
+    u16 v1126 = umin16((u16)(v1093 - v1123), 256u);
+    u16 v1124 = (u16)(v1126 + v1123);
+    u32_u16 v1127 = font_write_made_loca_gather_offsets(v25, v1123, v1124, v1119, v1121, v6);
+    u64 v1129 = (u64)((u16)((u32)v1126 << 2));
+    if (!((v1117 - v1115) < v1129)) { v1113 = v1112; v1118 = v1117; v1140 = v1115; goto v1133; }
+    if (!std_alloc_vec_Vec_grow_amortized_1cf2(v14, v1129)) goto v1136;
+    v1113 = at(ptr, v14); v1118 = at(u64, v14 + 16); v1140 = at(u64, v14 + 8); goto v1133;
+v1136:;
+    __builtin_trap();
+    __builtin_trap();
+v1133:;
+    if (!((((u64)(v1113 + (i64)v1140)) - v294) < v1129)) goto v1146;
+    memcpy_any(v1113 + (i64)v1140, v6, v1129);
+    goto v1114;
+v1146:;
+    memmove_any(v1113 + (i64)v1140, v6, v1129);
+v1114:;
+    u64 v1116 = v1140 + v1129;
+    at(ptr, v14) = v1113;
+    at(u64, v14 + 8) = v1116;
+    at(u64, v14 + 16) = v1118;
+    if (v1124 < v1093) { v1112 = v1113; v1115 = v1116; v1117 = v1118; v1119 = v1127._0; v1121 = v1127._1; v1123 = v1124; goto v1111; }
+    v1148 = v1116; v1149 = v1118;
+v1110:;
+    v1225 = v1148; v1226 = v1149;
+v550:;
+    u64 v1233 = (u64)(((u32)0 - at(u32, v18 + (i64)(v346 * 12u) + 8)) & 3);
+    if (!((v1226 - v1225) < v1233)) { v345 = v1226; v1242 = v1225; goto v341; }
+    if (!std_alloc_vec_Vec_grow_amortized_1cf2(v14, v1233)) goto v1239;
+    v345 = at(u64, v14 + 16); v1242 = at(u64, v14 + 8); goto v341;
+v1239:;
+    __builtin_trap();
+    __builtin_trap();
+v341:;
+    u8 *v340 = at(ptr, v14);
+    memset_any(v340 + (i64)v1242, 0, v1233);
+    u64 v343 = v1242 + v1233;
+    at(ptr, v14) = v340;
+    at(u64, v14 + 8) = v343;
+    at(u64, v14 + 16) = v345;
+    u64 v347 = v346 + 1;
+    if (!(v347 == 29u)) { v339 = v340; v342 = v343; v344 = v345; v346 = v347; goto v338; }
+    v1248 = 0; v1249 = (u64)v340; v1250 = v343; v1251 = v345; goto v1246;
 v127:;
-    v1150 = 1; v1151 = 0; v1152 = 0; v1153 = 0;
-v1148:;
-    memcpy(v29, v24, 320u);
-    font_subset_kind_source_CutOfKind_drop_3cda(v29);
-    if (v63 ? 1 : (v61 == 0)) { v1160 = v1150; v1161 = v1151; v1162 = v1152; v1163 = v1153; goto v39; }
+    v1248 = 1; v1249 = 0; v1250 = 0; v1251 = 0;
+v1246:;
+    u8 v1253 = at(u8, v25 + 24);
+    u8 *v1255 = at(ptr, v25 + 32);
+    u64 v1257 = at(u64, v25 + 48);
+    u8 v1259 = at(u8, v25 + 64);
+    u8 *v1261 = at(ptr, v25 + 72);
+    u64 v1263 = at(u64, v25 + 88);
+    u8 *v1265 = at(ptr, v25 + 168);
+    u64 v1267 = at(u64, v25 + 184);
+    memcpy(v5, v25 + 192, 160u);
+    divided_tables_all_tables_MadeTables_drop_2de7(v5);
+    if (v1267 == 0) goto v1270;
+    sys_rattle_dealloc(v1265);
+v1270:;
+    if ((v1253 != 1) ? 1 : (v1257 == 0)) goto v1275;
+    sys_rattle_dealloc(v1255);
+v1275:;
+    if ((v1259 != 1) ? 1 : (v1263 == 0)) goto v1280;
+    sys_rattle_dealloc(v1261);
+v1280:;
+    if (v63 ? 1 : (v61 == 0)) { v1288 = v1248; v1289 = v1249; v1290 = v1250; v1291 = v1251; goto v39; }
     sys_rattle_dealloc(v57);
-    v1160 = v1150; v1161 = v1151; v1162 = v1152; v1163 = v1153; goto v39;
+    v1288 = v1248; v1289 = v1249; v1290 = v1250; v1291 = v1251; goto v39;
 v74:;
 v75:;
-    if (v63 ? 1 : (v61 == 0)) { v1160 = 1; v1161 = 0; v1162 = 0; v1163 = 0; goto v39; }
+    if (v63 ? 1 : (v61 == 0)) { v1288 = 1; v1289 = 0; v1290 = 0; v1291 = 0; goto v39; }
     sys_rattle_dealloc(v57);
-    v1160 = 1; v1161 = 0; v1162 = 0; v1163 = 0; goto v39;
+    v1288 = 1; v1289 = 0; v1290 = 0; v1291 = 0; goto v39;
 v53:;
-    u8 v83 = at(u8, v23 + 16);
-    u8 *v85 = at(ptr, v23 + 24);
-    u64 v87 = at(u64, v23 + 40);
-    u8 v89 = at(u8, v23 + 56);
-    u8 *v91 = at(ptr, v23 + 64);
-    u64 v93 = at(u64, v23 + 80);
-    if (at(u64, v23 + 136) == 0) goto v97;
-    sys_rattle_dealloc(at(ptr, v23 + 120));
+    u8 v83 = at(u8, v24 + 16);
+    u8 *v85 = at(ptr, v24 + 24);
+    u64 v87 = at(u64, v24 + 40);
+    u8 v89 = at(u8, v24 + 56);
+    u8 *v91 = at(ptr, v24 + 64);
+    u64 v93 = at(u64, v24 + 80);
+    if (at(u64, v24 + 136) == 0) goto v97;
+    sys_rattle_dealloc(at(ptr, v24 + 120));
 v97:;
     if ((v83 != 1) ? 1 : (v87 == 0)) goto v103;
     sys_rattle_dealloc(v85);
 v103:;
-    if ((v89 != 1) ? 1 : (v93 == 0)) { v1160 = 1; v1161 = 0; v1162 = 0; v1163 = 0; goto v39; }
+    if ((v89 != 1) ? 1 : (v93 == 0)) { v1288 = 1; v1289 = 0; v1290 = 0; v1291 = 0; goto v39; }
     sys_rattle_dealloc(v91);
-    v1160 = 1; v1161 = 0; v1162 = 0; v1163 = 0;
+    v1288 = 1; v1289 = 0; v1290 = 0; v1291 = 0;
 v39:;
-    at(u64_1, v0) = v1160;
-    at(u64_1, v0 + 8) = v1161;
-    at(u64_1, v0 + 16) = v1162;
-    at(u64_1, v0 + 24) = v1163;
+    at(u64_1, v0) = v1288;
+    at(u64_1, v0 + 8) = v1289;
+    at(u64_1, v0 + 16) = v1290;
+    at(u64_1, v0 + 24) = v1291;
     return;
 }
 
 void font_subset_cut_font_cut_of_kind_into(u8 *v0, u8 *v1, u8 *v2, u8 *v3, u8 *v4) {
-    _Alignas(8) u8 v6[96], v7[96], v8[96], v9[96], v13[96], v14[96], v15[96], v19[96], v20[48], v22[24], v27[96], v30[24], v31[24], v32[384], v33[384], v34[328], v35[200], v36[144], v37[24], v38[56], v39[152], v40[104], v41[16], v44[144], v45[320], v47[24], v48[40], v49[24], v51[320];
-    _Alignas(4) u8 v10[4], v16[16], v23[64], v24[20], v25[32], v26[4];
-    u8 v11[1024], v17[1024], v28[12], v46[111], v50[327], *v320, v620, v622, *v722, *v850, v1112, v1196;
-    u16 v179, v180, v181, v675, v1026, v1028;
-    u64 v197, v228, v237, v239, v251, v290, v382, v1121, v1156, v1167, v1170, v1178, v1180, v1190, v435, v470, v481, v484, v492, v494, v505, v519, v541, v542, v544, v579, v590, v593, v601, v603, v614, v640, v647, v660, v663, v670, v678, v717, v718, v721, v741, v748, v761, v764, v679, v778, v804, v821, v851, v858, v894, v905, v908, v916, v918, v929, v946, v953, v966, v969, v976, v982, v1003, v1015, v1036, v1071, v1082, v1085, v1093, v1095, v1106, v1207, v1233, v1242, v1243, v1244;
-    u32 v287, v512, v516, v513, v1023;
-    u8x16 v649, v750, v955;
-    u64 v12 = (u64)v11;
-    u64 v18 = (u64)v17;
-    u64 v21 = (u64)v20;
-    u64 v29 = (u64)v28;
-    u8 v42 = at(u8, v3);
-    memcpy(v41, v3 + 8, 16u);
-    memset(v44, 0, 144u);
-    memset(v45, 0, 320u);
-    memset(v46, 0, 111u);
-    memset(v47, 0, 24u);
-    memset(v48, 0, 40u);
+    _Alignas(8) u8 v6[160], v7[96], v8[96], v9[96], v10[96], v14[96], v15[96], v16[96], v17[96], v21[96], v22[56], v24[24], v29[96], v32[24], v33[24], v34[384], v35[384], v36[360], v37[200], v38[144], v39[24], v40[56], v41[152], v42[104], v43[16], v46[144], v47[352], v49[24], v50[40], v51[24];
+    _Alignas(4) u8 v11[4], v18[16], v25[64], v26[20], v27[32], v28[4];
+    u8 v12[1024], v19[1024], v30[12], v48[111], v52[359], *v321, *v421, v453, v454, v455, v456, v457, v458, v460, v461, v462, v463, v464, v465, *v832, *v958, v1222, v1307;
+    u16 v180, v181, v182, v785, v1136, v1138;
+    u64 v198, v229, v238, v240, v252, v291, v389, v1231, v1266, v1277, v1280, v1288, v1290, v1301, v422, v469, v471, v506, v517, v520, v528, v530, v541, v555, v577, v578, v580, v615, v626, v629, v637, v639, v650, v659, v694, v705, v708, v716, v718, v729, v750, v757, v770, v773, v780, v788, v827, v828, v831, v850, v857, v870, v873, v789, v886, v912, v929, v959, v966, v1002, v1013, v1016, v1024, v1026, v1038, v1056, v1063, v1076, v1079, v1086, v1092, v1113, v1125, v1146, v1181, v1192, v1195, v1203, v1205, v1216, v1318, v1344, v1353, v1354, v1355;
+    u32 v288, v459, v466, v467, v468, v548, v552, v549, v1133;
+    u8x16 v759, v859, v1065;
+    u64 v13 = (u64)v12;
+    u64 v20 = (u64)v19;
+    u64 v23 = (u64)v22;
+    u64 v31 = (u64)v30;
+    u8 v44 = at(u8, v3);
+    memcpy(v43, v3 + 8, 16u);
+    memset(v46, 0, 144u);
+    memset(v47, 0, 352u);
+    memset(v48, 0, 111u);
     memset(v49, 0, 24u);
-    memset(v50, 0, 327u);
-    memset(v51, 0, 320u);
-    u8 *v53 = at(ptr, v1 + 8);
-    memset(v39, 0, 152u);
-    memset(v38, 0, 56u);
-    font_map_chart_Chart_of_3518(v38, v53 + 72);
-    if (!(at(u8, v38) == 0)) goto v58;
-    u64 v61 = at(u64, v38 + 48);
-    u64 v65 = at(u64, v38 + 8);
-    u64 v67 = (u64)at(u8, v38 + 16);
-    memcpy(v40 + 24, v38 + 24, 24u);
-    at(ptr, v40) = v53;
-    at(u64, v40 + 8) = v65;
-    at(u64, v40 + 16) = v67;
-    at(u64, v40 + 48) = v61;
-    memset(v40 + 56, 0, 48u);
-    font_subset_selection_Seeds_in_chart(v39, v40, 1, v2);
-    u8 v73 = at(u8, v39);
-    memcpy(v46 + 7, v39 + 8, 104u);
-    u8 v77 = at(u8, v39 + 112);
-    u64 v79 = at(u64, v39 + 120);
-    memcpy(v47, v39 + 128, 24u);
-    if (!(v73 == 0)) goto v59;
-    u64 v84 = (u64)v77;
-    memcpy(v44, v46 + 7, 104u);
-    at(u64, v44 + 104) = v84;
-    at(u64, v44 + 112) = v79;
-    memcpy(v44 + 120, v47, 24u);
-    at(u64, v49) = (u64)v42;
-    memcpy(v49 + 8, v41, 16u);
-    font_subset_font_to_cut_FontToCut_numbers_beside_19bd(v48, v1, v44, v49);
-    if (!(at(u8, v48) == 0)) goto v92;
-    u8 v96 = at(u8, v48 + 8);
-    u8 *v98 = at(ptr, v48 + 16);
-    u64 v102 = at(u64, v48 + 32);
-    flag v104 = v96 != 1;
-    u64 v106 = v104 ? 0 : at(u64, v48 + 24);
-    memset(v34, 0, 328u);
-    memset(v35, 0, 200u);
-    memcpy(v36, v46 + 7, 104u);
-    at(u64, v36 + 104) = v84;
-    at(u64, v36 + 112) = v79;
-    memcpy(v36 + 120, v47, 24u);
-    at(u64, v37) = (u64)v96;
-    at(ptr, v37 + 8) = v104 ? ((u8 *)0) : v98;
-    at(u64, v37 + 16) = v106;
-    font_subset_selection_Selection_of_seeds_4cdf(v35, v1, v36, v37);
-    if (!(at(u8, v35) == 0)) goto v115;
-    font_subset_kind_source_CutOfKind_of_87a4(v34, v35 + 8);
-    u8 v118 = at(u8, v34);
-    memcpy(v50 + 7, v34 + 8, 320u);
-    if (!(v118 == 0)) goto v116;
-    memcpy(v45, v50 + 7, 320u);
-    memset(v32, 0, 384u);
-    memset(v30, 0, 24u);
-    font_write_size_file_size_22d8(v30, v45);
-    u64 v153 = at(u64, v30 + 16);
-    if (!(v153 > 134217728u)) goto v156;
-    v1242 = 1; v1243 = 1; v1244 = v153; goto v1240;
-v156:;
-    u64 v157 = at(u64, v30);
-    memcpy(v31 + 8, v30 + 8, 16u);
-    at(u64, v31) = v157;
-    font_write_plan_plan_of(v32, v45, 1, v31);
-    u64 v161 = at(u64, v31 + 16);
-    u64 v162 = at(u64, v32);
-    memcpy(v33 + 8, v32 + 8, 376u);
-    at(u64, v33) = v162;
-    u16 v166 = at(u16, v33 + 352);
-    if (!(((u16)(v166 + 65535u)) < 4095u)) { v179 = 0; v180 = 0; v181 = 0; goto v170; }
-    u16 v172 = (u16)(ctlz16(v166) ^ 15u);
-    u16 v173 = (u16)((u32)16u << (v172 & 31));
-    v179 = bswap16((u16)(((u16)((u32)v166 << 4)) - v173)); v180 = (u16)((u32)v172 << 8); v181 = bswap16(v173);
-v170:;
-    at(u8, v28) = 0;
-    at(u8, v28 + 1) = 1;
-    at(u8, v28 + 2) = 0;
-    at(u8, v28 + 3) = 0;
-    at(u16_1, v28 + 4) = bswap16(v166);
-    at(u16_1, v28 + 6) = v181;
-    at(u16_1, v28 + 8) = v180;
-    at(u16_1, v28 + 10) = v179;
+    memset(v50, 0, 40u);
+    memset(v51, 0, 24u);
+    memset(v52, 0, 359u);
+    u8 *v54 = at(ptr, v1 + 8);
+    memset(v41, 0, 152u);
+    memset(v40, 0, 56u);
+    font_map_chart_Chart_of_3518(v40, v54 + 72);
+    if (!(at(u8, v40) == 0)) goto v59;
+    u64 v62 = at(u64, v40 + 48);
+    u64 v66 = at(u64, v40 + 8);
+    u64 v68 = (u64)at(u8, v40 + 16);
+    memcpy(v42 + 24, v40 + 24, 24u);
+    at(ptr, v42) = v54;
+    at(u64, v42 + 8) = v66;
+    at(u64, v42 + 16) = v68;
+    at(u64, v42 + 48) = v62;
+    memset(v42 + 56, 0, 48u);
+    font_subset_selection_Seeds_in_chart(v41, v42, 1, v2);
+    u8 v74 = at(u8, v41);
+    memcpy(v48 + 7, v41 + 8, 104u);
+    u8 v78 = at(u8, v41 + 112);
+    u64 v80 = at(u64, v41 + 120);
+    memcpy(v49, v41 + 128, 24u);
+    if (!(v74 == 0)) goto v60;
+    u64 v85 = (u64)v78;
+    memcpy(v46, v48 + 7, 104u);
+    at(u64, v46 + 104) = v85;
+    at(u64, v46 + 112) = v80;
+    memcpy(v46 + 120, v49, 24u);
+    at(u64, v51) = (u64)v44;
+    memcpy(v51 + 8, v43, 16u);
+    font_subset_font_to_cut_FontToCut_numbers_beside_19bd(v50, v1, v46, v51);
+    if (!(at(u8, v50) == 0)) goto v93;
+    u8 v97 = at(u8, v50 + 8);
+    u8 *v99 = at(ptr, v50 + 16);
+    u64 v103 = at(u64, v50 + 32);
+    flag v105 = v97 != 1;
+    u64 v107 = v105 ? 0 : at(u64, v50 + 24);
+    memset(v36, 0, 360u);
+    memset(v37, 0, 200u);
+    memcpy(v38, v48 + 7, 104u);
+    at(u64, v38 + 104) = v85;
+    at(u64, v38 + 112) = v80;
+    memcpy(v38 + 120, v49, 24u);
+    at(u64, v39) = (u64)v97;
+    at(ptr, v39 + 8) = v105 ? ((u8 *)0) : v99;
+    at(u64, v39 + 16) = v107;
+    font_subset_selection_Selection_of_seeds_4cdf(v37, v1, v38, v39);
+    if (!(at(u8, v37) == 0)) goto v116;
+    font_subset_kind_source_CutOfKind_of_87a4(v36, v37 + 8);
+    u8 v119 = at(u8, v36);
+    memcpy(v52 + 7, v36 + 8, 352u);
+    if (!(v119 == 0)) goto v117;
+    memcpy(v47, v52 + 7, 352u);
+    memset(v34, 0, 384u);
+    memset(v32, 0, 24u);
+    font_write_size_file_size_22d8(v32, v47);
+    u64 v154 = at(u64, v32 + 16);
+    if (!(v154 > 134217728u)) goto v157;
+    v1353 = 1; v1354 = 1; v1355 = v154; goto v1351;
+v157:;
+    u64 v158 = at(u64, v32);
+    memcpy(v33 + 8, v32 + 8, 16u);
+    at(u64, v33) = v158;
+    font_write_plan_plan_of(v34, v47, 1, v33);
+    u64 v162 = at(u64, v33 + 16);
+    u64 v163 = at(u64, v34);
+    memcpy(v35 + 8, v34 + 8, 376u);
+    at(u64, v35) = v163;
+    u16 v167 = at(u16, v35 + 352);
+    if (!(((u16)(v167 + 65535u)) < 4095u)) { v180 = 0; v181 = 0; v182 = 0; goto v171; }
+    u16 v173 = (u16)(ctlz16(v167) ^ 15u);
+    u16 v174 = (u16)((u32)16u << (v173 & 31));
+    v180 = bswap16((u16)(((u16)((u32)v167 << 4)) - v174)); v181 = (u16)((u32)v173 << 8); v182 = bswap16(v174);
+v171:;
+    at(u8, v30) = 0;
+    at(u8, v30 + 1) = 1;
+    at(u8, v30 + 2) = 0;
+    at(u8, v30 + 3) = 0;
+    at(u16_1, v30 + 4) = bswap16(v167);
+    at(u16_1, v30 + 6) = v182;
+    at(u16_1, v30 + 8) = v181;
+    at(u16_1, v30 + 10) = v180;
     at(u8, v4 + 145) = 0;
-    v197 = 0;
-v196:;
-    u64 v201 = (u64)12u - v197;
-    memset(v27, 0, 96u);
-    u64 v202 = at(u64, v4 + 128);
-    u64 v203 = at(u64, v4 + 120);
-    if (!(v201 < (v202 - v203))) goto v207;
-    u64 v208 = v203 + v201;
-    u8 *v209 = at(ptr, v4 + 112);
-    u64 v210 = (u64)v209;
-    if (!((((u64)(v209 + (i64)v203)) - ((u64)(v28 + (i64)v197))) < v201)) goto v217;
-    if (v197 > 8) { v237 = 0; goto v219; }
-    if (((v203 + v210) - (v197 + v29)) < 32u) { v237 = 0; goto v219; }
-    u64 v226 = v201 & 12u;
-    v228 = 0;
-v227:;
-    at(u8x4_1, (v209 + (i64)v203) + v228) = at(u8x4_1, (v28 + (i64)v197) + v228);
-    u64 v229 = v228 + 4;
-    if (!(v229 == v226)) { v228 = v229; goto v227; }
-    if (v201 == v226) goto v236;
-    v237 = v226;
-v219:;
-    v239 = v237;
-v238:;
-    at(u8, (v209 + (i64)v203) + v239) = at(u8, (v28 + (i64)v197) + v239);
-    u64 v240 = v239 + 1;
-    if (v240 == v201) goto v236;
-    v239 = v240; goto v238;
-v217:;
-    memmove_any(v209 + (i64)v203, v28 + (i64)v197, v201);
-v236:;
-    at(ptr, v4 + 112) = v209;
-    at(u64, v4 + 120) = v208;
-    at(u64, v4 + 128) = v202;
-    v251 = v201; goto v199;
-v207:;
-    std_io_buffered_BufWriter_write_cold(v27, v4, v28 + (i64)v197, v201);
-    u64 v246 = at(u64, v27 + 8);
-    if (!((at(u8, v27) != 0) ? 1 : (v246 == 0))) { v251 = v246; goto v199; }
+    v198 = 0;
+v197:;
+    u64 v202 = (u64)12u - v198;
+    memset(v29, 0, 96u);
+    u64 v203 = at(u64, v4 + 128);
+    u64 v204 = at(u64, v4 + 120);
+    if (!(v202 < (v203 - v204))) goto v208;
+    u64 v209 = v204 + v202;
+    u8 *v210 = at(ptr, v4 + 112);
+    u64 v211 = (u64)v210;
+    if (!((((u64)(v210 + (i64)v204)) - ((u64)(v30 + (i64)v198))) < v202)) goto v218;
+    if (v198 > 8) { v238 = 0; goto v220; }
+    if (((v204 + v211) - (v198 + v31)) < 32u) { v238 = 0; goto v220; }
+    u64 v227 = v202 & 12u;
+    v229 = 0;
+v228:;
+    at(u8x4_1, (v210 + (i64)v204) + v229) = at(u8x4_1, (v30 + (i64)v198) + v229);
+    u64 v230 = v229 + 4;
+    if (!(v230 == v227)) { v229 = v230; goto v228; }
+    if (v202 == v227) goto v237;
+    v238 = v227;
+v220:;
+    v240 = v238;
+v239:;
+    at(u8, (v210 + (i64)v204) + v240) = at(u8, (v30 + (i64)v198) + v240);
+    u64 v241 = v240 + 1;
+    if (v241 == v202) goto v237;
+    v240 = v241; goto v239;
+v218:;
+    memmove_any(v210 + (i64)v204, v30 + (i64)v198, v202);
+v237:;
+    at(ptr, v4 + 112) = v210;
+    at(u64, v4 + 120) = v209;
+    at(u64, v4 + 128) = v203;
+    v252 = v202; goto v200;
+v208:;
+    std_io_buffered_BufWriter_write_cold(v29, v4, v30 + (i64)v198, v202);
+    u64 v247 = at(u64, v29 + 8);
+    if (!((at(u8, v29) != 0) ? 1 : (v247 == 0))) { v252 = v247; goto v200; }
     at(u8, v4 + 144) = 1;
-    goto v324;
-v199:;
-    u64 v198 = v251 + v197;
-    at(u64, v4 + 136) = at(u64, v4 + 136) + v251;
-    if (v198 < 12u) { v197 = v198; goto v196; }
-    v287 = (((u32)v166) << 4) | 12u; v290 = 0;
-v286:;
-    u64 v292 = v290 * 12u;
-    u32 v296 = at(u32, (v33 + 4) + v292 + 4);
-    u32 v298 = at(u32, (v33 + 4) + v292 + 8);
-    if (!(at(u8, (v33 + 4) + v292) & 1)) goto v301;
-    u64 v304 = at(u64, (u8 *)table_faed1f12 + (v290 << 3));
-    if (!(v304 < 16u)) goto v307;
-    at(u32, v23) = 841962319u;
-    at(u32, v23 + 4) = 1885433187u;
-    at(u32, v23 + 8) = 544503395u;
-    at(u32, v23 + 12) = 1835495526u;
-    at(u32, v23 + 16) = 1886609767u;
-    at(u32, v23 + 20) = 1719233639u;
-    at(u32, v23 + 24) = 1684104552u;
-    at(u32, v23 + 28) = 1634035816u;
-    at(u32, v23 + 32) = 2020896104u;
-    at(u32, v23 + 36) = 1633906540u;
-    at(u32, v23 + 40) = 1886937453u;
-    at(u32, v23 + 44) = 1701667182u;
-    at(u32, v23 + 48) = 1953722224u;
-    at(u32, v23 + 52) = 1885696624u;
-    at(u32, v23 + 56) = 1634035830u;
-    at(u32, v23 + 60) = 2020896118u;
-    v320 = v23 + (v304 << 2); goto v310;
-v307:;
-    if (!(v304 < 21u)) goto v313;
-    at(u32, v24) = 1163084098u;
-    at(u32, v24 + 4) = 1178944583u;
-    at(u32, v24 + 8) = 1397706823u;
-    at(u32, v24 + 12) = 1112888135u;
-    at(u32, v24 + 16) = 1852990827u;
-    v320 = v24 + (i64)(v304 << 2) - 64; goto v310;
-v313:;
-    at(u32, v25) = 1380013640u;
-    at(u32, v25 + 4) = 1380013645u;
-    at(u32, v25 + 8) = 1413567571u;
-    at(u32, v25 + 12) = 1380013654u;
-    at(u32, v25 + 16) = 1918989921u;
-    at(u32, v25 + 20) = 1918989923u;
-    at(u32, v25 + 24) = 1918989926u;
-    at(u32, v25 + 28) = 1918989927u;
-    v320 = v25 + (i64)(v304 << 2) - 84;
-v310:;
-    at(u32, v26) = at(u32_1, v320);
-    if (font_write_writer_send_entry_f0d8(v26, v298, v287, v296, v4) & 1) goto v324;
-    goto v289;
-v301:;
-v289:;
-    u64 v291 = v290 + 1;
-    if (!(v291 == 29u)) { v287 = (v296 + v287) + (((u32)0 - v296) & 3); v290 = v291; goto v286; }
-    v382 = 0;
-v381:;
-    u64 v387 = at(u64, (u8 *)table_faed1f12 + (v382 << 3));
-    memset(v22, 0, 24u);
-    switch (v387) {
-    case 1: goto v389;
-    case 5: goto v390;
-    case 6: goto v391;
-    case 9: goto v392;
-    default: goto v388;
-    }
+    goto v325;
+v200:;
+    u64 v199 = v252 + v198;
+    at(u64, v4 + 136) = at(u64, v4 + 136) + v252;
+    if (v199 < 12u) { v198 = v199; goto v197; }
+    v288 = (((u32)v167) << 4) | 12u; v291 = 0;
+v287:;
+    u64 v293 = v291 * 12u;
+    u32 v297 = at(u32, (v35 + 4) + v293 + 4);
+    u32 v299 = at(u32, (v35 + 4) + v293 + 8);
+    if (!(at(u8, (v35 + 4) + v293) & 1)) goto v302;
+    u64 v305 = at(u64, (u8 *)table_faed1f12 + (v291 << 3));
+    if (!(v305 < 16u)) goto v308;
+    at(u32, v25) = 841962319u;
+    at(u32, v25 + 4) = 1885433187u;
+    at(u32, v25 + 8) = 544503395u;
+    at(u32, v25 + 12) = 1835495526u;
+    at(u32, v25 + 16) = 1886609767u;
+    at(u32, v25 + 20) = 1719233639u;
+    at(u32, v25 + 24) = 1684104552u;
+    at(u32, v25 + 28) = 1634035816u;
+    at(u32, v25 + 32) = 2020896104u;
+    at(u32, v25 + 36) = 1633906540u;
+    at(u32, v25 + 40) = 1886937453u;
+    at(u32, v25 + 44) = 1701667182u;
+    at(u32, v25 + 48) = 1953722224u;
+    at(u32, v25 + 52) = 1885696624u;
+    at(u32, v25 + 56) = 1634035830u;
+    at(u32, v25 + 60) = 2020896118u;
+    v321 = v25 + (v305 << 2); goto v311;
+v308:;
+    if (!(v305 < 21u)) goto v314;
+    at(u32, v26) = 1163084098u;
+    at(u32, v26 + 4) = 1178944583u;
+    at(u32, v26 + 8) = 1397706823u;
+    at(u32, v26 + 12) = 1112888135u;
+    at(u32, v26 + 16) = 1852990827u;
+    v321 = v26 + (i64)(v305 << 2) - 64; goto v311;
+v314:;
+    at(u32, v27) = 1380013640u;
+    at(u32, v27 + 4) = 1380013645u;
+    at(u32, v27 + 8) = 1413567571u;
+    at(u32, v27 + 12) = 1380013654u;
+    at(u32, v27 + 16) = 1918989921u;
+    at(u32, v27 + 20) = 1918989923u;
+    at(u32, v27 + 24) = 1918989926u;
+    at(u32, v27 + 28) = 1918989927u;
+    v321 = v27 + (i64)(v305 << 2) - 84;
+v311:;
+    at(u32, v28) = at(u32_1, v321);
+    if (font_write_writer_send_entry_f0d8(v28, v299, v288, v297, v4) & 1) goto v325;
+    goto v290;
+v302:;
+v290:;
+    u64 v292 = v291 + 1;
+    if (!(v292 == 29u)) { v288 = (v297 + v288) + (((u32)0 - v297) & 3); v291 = v292; goto v287; }
+    v389 = 0;
 v388:;
-    font_subset_kind_source_CutOfKindSource_copied(v22, v45, v387);
-    if (!(at(u8, v22) == 1)) goto v776;
-    u8 *v1116 = at(ptr, v22 + 8);
-    u64 v1117 = (u64)v1116;
-    u64 v1118 = at(u64, v22 + 16);
+    u64 v394 = at(u64, (u8 *)table_faed1f12 + (v389 << 3));
+    memset(v24, 0, 24u);
+    switch (v394) {
+    case 1: goto v396;
+    case 5: goto v397;
+    case 6: goto v398;
+    case 9: goto v399;
+    default: goto v395;
+    }
+v395:;
+    font_subset_kind_source_CutOfKindSource_copied(v24, v47, v394);
+    if (!(at(u8, v24) == 1)) goto v657;
+    u8 *v1226 = at(ptr, v24 + 8);
+    u64 v1227 = (u64)v1226;
+    u64 v1228 = at(u64, v24 + 16);
     at(u8, v4 + 145) = 0;
-    if (v1118 == 0) goto v776;
-    v1121 = 0;
-v1120:;
-    u64 v1125 = v1118 - v1121;
-    memset(v7, 0, 96u);
-    u64 v1126 = at(u64, v4 + 128);
-    u64 v1127 = at(u64, v4 + 120);
-    if (!(v1125 < (v1126 - v1127))) goto v1131;
-    u64 v1132 = v1127 + v1125;
-    u8 *v1133 = at(ptr, v4 + 112);
-    u64 v1134 = (u64)v1133;
-    memset(v4 + 120, 0, 16u);
-    if (!((((u64)(v1133 + (i64)v1127)) - ((u64)(v1116 + (i64)v1121))) < v1125)) goto v1141;
-    if (v1125 < 4) { v1178 = 0; goto v1143; }
-    if (((v1127 + v1134) - (v1121 + v1117)) < 32u) { v1178 = 0; goto v1143; }
-    if (v1125 < 16u) { v1167 = 0; goto v1151; }
-    u64 v1153 = v1125 & 12u;
-    u64 v1154 = v1125 & 0xfffffffffffffff0u;
-    v1156 = 0;
-v1155:;
-    at(u8x16_1, (v1133 + (i64)v1127) + v1156) = at(u8x16_1, (v1116 + (i64)v1121) + v1156);
-    u64 v1157 = v1156 + 16u;
-    if (!(v1157 == v1154)) { v1156 = v1157; goto v1155; }
-    if (v1125 == v1154) goto v1164;
-    if (v1153 == 0) { v1178 = v1154; goto v1143; }
-    v1167 = v1154;
-v1151:;
-    u64 v1168 = v1125 & 0xfffffffffffffffcu;
-    v1170 = v1167;
-v1169:;
-    at(u8x4_1, (v1133 + (i64)v1127) + v1170) = at(u8x4_1, (v1116 + (i64)v1121) + v1170);
-    u64 v1171 = v1170 + 4;
-    if (!(v1171 == v1168)) { v1170 = v1171; goto v1169; }
-    if (v1125 == v1168) goto v1164;
-    v1178 = v1168;
-v1143:;
-    v1180 = v1178;
-v1179:;
-    at(u8, (v1133 + (i64)v1127) + v1180) = at(u8, (v1116 + (i64)v1121) + v1180);
-    u64 v1181 = v1180 + 1;
-    if (v1181 == v1125) goto v1164;
-    v1180 = v1181; goto v1179;
-v1141:;
-    memmove_any(v1133 + (i64)v1127, v1116 + (i64)v1121, v1125);
-v1164:;
-    at(ptr, v4 + 112) = v1133;
-    at(u64, v4 + 120) = v1132;
-    at(u64, v4 + 128) = v1126;
-    v1190 = v1125; goto v1186;
-v1131:;
-    std_io_buffered_BufWriter_write_cold(v7, v4, v1116 + (i64)v1121, v1125);
-    if (at(u8, v7) == 0) v1190 = at(u64, v7 + 8); else goto v803;
-v1186:;
-    if (v1190 == 0) goto v803;
-    u64 v1122 = v1190 + v1121;
-    at(u64, v4 + 136) = at(u64, v4 + 136) + v1190;
-    if (v1122 < v1118) { v1121 = v1122; goto v1120; }
-    goto v776;
-v389:;
-    u32 v394 = at(u32, v33 + 360);
-    u32 v397 = bswap32((v394 * 12u) + 16u);
-    u8 v398 = (u8)v397;
-    u8 v400 = (u8)(v397 >> 8);
-    u8 v402 = (u8)(v397 >> 16u);
-    u8 v404 = (u8)(v397 >> 24u);
-    u32 v405 = bswap32(v394);
-    u8 v406 = (u8)v405;
-    u8 v408 = (u8)(v405 >> 8);
-    u8 v410 = (u8)(v405 >> 16u);
-    u8 v412 = (u8)(v405 >> 24u);
-    flag v413 = at(u8, v33) == 0;
-    u64 v433 = v413 ? 28u : 36u;
-    at(u64, v20) = 0;
-    at(u8, v20 + 3) = v413 ? 1 : 2;
-    at(u8, v20 + 5) = v413 ? 3 : 0;
-    at(u8, v20 + 7) = v413 ? 10u : 4;
-    at(u8, v20 + 8) = 0;
-    at(u8, v20 + 9) = 0;
-    at(u8, v20 + 10) = 0;
-    at(u8, v20 + 11) = v413 ? 12u : 20u;
-    at(u8, v20 + 12) = 0;
-    at(u8, v20 + 13) = v413 ? 12u : 3;
-    at(u8, v20 + 14) = 0;
-    at(u8, v20 + 15) = v413 ? 0 : 10u;
-    at(u8, v20 + 16) = v413 ? v398 : 0;
-    at(u8, v20 + 17) = v413 ? v400 : 0;
-    at(u8, v20 + 18) = v413 ? v402 : 0;
-    at(u8, v20 + 19) = v413 ? v404 : 20u;
-    at(u8, v20 + 20) = 0;
-    at(u8, v20 + 21) = v413 ? 0 : 12u;
-    at(u8, v20 + 22) = 0;
-    at(u8, v20 + 23) = 0;
-    at(u8, v20 + 24) = v413 ? v406 : v398;
-    at(u8, v20 + 25) = v413 ? v408 : v400;
-    at(u8, v20 + 26) = v413 ? v410 : v402;
-    at(u8, v20 + 27) = v413 ? v412 : v404;
-    at(u32, v20 + 28) = 0;
-    at(u8, v20 + 32) = v413 ? 0 : v406;
-    at(u8, v20 + 33) = v413 ? 0 : v408;
-    at(u8, v20 + 34) = v413 ? 0 : v410;
-    at(u8, v20 + 35) = v413 ? 0 : v412;
-    at(u32, v20 + 36) = 0;
-    at(u64, v20 + 40) = v433;
-    at(u8, v4 + 145) = 0;
-    v435 = 0;
-v434:;
-    u64 v439 = v433 - v435;
-    memset(v19, 0, 96u);
-    u64 v440 = at(u64, v4 + 128);
-    u64 v441 = at(u64, v4 + 120);
-    if (!(v439 < (v440 - v441))) goto v445;
-    u64 v446 = v441 + v439;
-    u8 *v447 = at(ptr, v4 + 112);
-    u64 v448 = (u64)v447;
-    if (!((((u64)(v447 + (i64)v441)) - ((u64)(v20 + (i64)v435))) < v439)) goto v455;
-    if (v439 < 4) { v492 = 0; goto v457; }
-    if (((v441 + v448) - (v435 + v21)) < 32u) { v492 = 0; goto v457; }
-    if (v439 < 16u) { v481 = 0; goto v465; }
-    u64 v467 = v439 & 12u;
-    u64 v468 = v439 & 48u;
-    v470 = 0;
-v469:;
-    at(u8x16_1, (v447 + (i64)v441) + v470) = at(u8x16_1, (v20 + (i64)v435) + v470);
-    u64 v471 = v470 + 16u;
-    if (!(v471 == v468)) { v470 = v471; goto v469; }
-    if (v439 == v468) goto v478;
-    if (v467 == 0) { v492 = v468; goto v457; }
-    v481 = v468;
-v465:;
-    u64 v482 = v439 & 60u;
-    v484 = v481;
-v483:;
-    at(u8x4_1, (v447 + (i64)v441) + v484) = at(u8x4_1, (v20 + (i64)v435) + v484);
-    u64 v485 = v484 + 4;
-    if (!(v485 == v482)) { v484 = v485; goto v483; }
-    if (v439 == v482) goto v478;
-    v492 = v482;
-v457:;
-    v494 = v492;
-v493:;
-    at(u8, (v447 + (i64)v441) + v494) = at(u8, (v20 + (i64)v435) + v494);
-    u64 v495 = v494 + 1;
-    if (v495 == v439) goto v478;
-    v494 = v495; goto v493;
-v455:;
-    memmove_any(v447 + (i64)v441, v20 + (i64)v435, v439);
-v478:;
-    at(ptr, v4 + 112) = v447;
-    at(u64, v4 + 120) = v446;
-    at(u64, v4 + 128) = v440;
-    v505 = v439; goto v500;
-v445:;
-    std_io_buffered_BufWriter_write_cold(v19, v4, v20 + (i64)v435, v439);
-    if (at(u8, v19) == 0) v505 = at(u64, v19 + 8); else goto v504;
-v500:;
-    if (v505 == 0) goto v504;
-    u64 v436 = v505 + v435;
-    at(u64, v4 + 136) = at(u64, v4 + 136) + v505;
-    if (v436 < v433) { v435 = v436; goto v434; }
-    memset(v17, 0, 1024u);
-    v512 = 0;
-v511:;
-    memset(v16, 0, 16u);
-    v516 = v512; v519 = 0;
-v515:;
-    font_subset_kind_source_CutOfKindSource_next_run(v16, v45, v516);
-    if (!(at(u8, v16) == 1)) goto v523;
-    u32 v525 = at(u32, v16 + 8);
-    u64 v527 = v519 * 12u;
-    u16 v526 = at(u16, v16 + 12);
-    at(u32_1, v17 + v527) = bswap32(at(u32, v16 + 4));
-    at(u32_1, v17 + v527 + 4) = bswap32(v525);
-    at(u32_1, v17 + v527 + 8) = bswap32((u32)v526);
-    u32 v517 = v525 + 1;
-    u64 v520 = v519 + 1;
-    if (!(v520 == 85u)) { v516 = v517; v519 = v520; goto v515; }
-    at(u8, v4 + 145) = 0;
-    v541 = 1020u; v542 = 85u; v513 = v517; goto v537;
-v523:;
-    at(u8, v4 + 145) = 0;
-    if (v519 == 0) { v620 = 0; goto v540; }
-    v541 = v519 * 12u; v542 = v519; v513 = v516;
-v537:;
-    v544 = 0;
-v543:;
-    u64 v548 = v541 - v544;
-    memset(v15, 0, 96u);
-    u64 v549 = at(u64, v4 + 128);
-    u64 v550 = at(u64, v4 + 120);
-    if (!(v548 < (v549 - v550))) goto v554;
-    u64 v555 = v550 + v548;
-    u8 *v556 = at(ptr, v4 + 112);
-    u64 v557 = (u64)v556;
-    if (!((((u64)(v556 + (i64)v550)) - ((u64)(v17 + (i64)v544))) < v548)) goto v564;
-    if (v548 < 4) { v601 = 0; goto v566; }
-    if (((v550 + v557) - (v544 + v18)) < 32u) { v601 = 0; goto v566; }
-    if (v548 < 16u) { v590 = 0; goto v574; }
-    u64 v576 = v548 & 12u;
-    u64 v577 = v548 & 0x7ffffffffffffff0u;
-    v579 = 0;
-v578:;
-    at(u8x16_1, (v556 + (i64)v550) + v579) = at(u8x16_1, (v17 + (i64)v544) + v579);
-    u64 v580 = v579 + 16u;
-    if (!(v580 == v577)) { v579 = v580; goto v578; }
-    if (v548 == v577) goto v587;
-    if (v576 == 0) { v601 = v577; goto v566; }
-    v590 = v577;
-v574:;
-    u64 v591 = v548 & 0x7ffffffffffffffcu;
-    v593 = v590;
-v592:;
-    at(u8x4_1, (v556 + (i64)v550) + v593) = at(u8x4_1, (v17 + (i64)v544) + v593);
-    u64 v594 = v593 + 4;
-    if (!(v594 == v591)) { v593 = v594; goto v592; }
-    if (v548 == v591) goto v587;
-    v601 = v591;
-v566:;
-    v603 = v601;
-v602:;
-    at(u8, (v556 + (i64)v550) + v603) = at(u8, (v17 + (i64)v544) + v603);
-    u64 v604 = v603 + 1;
-    if (v604 == v548) goto v587;
-    v603 = v604; goto v602;
-v564:;
-    memmove_any(v556 + (i64)v550, v17 + (i64)v544, v548);
-v587:;
-    at(ptr, v4 + 112) = v556;
-    at(u64, v4 + 120) = v555;
-    at(u64, v4 + 128) = v549;
-    v614 = v548; goto v609;
-v554:;
-    std_io_buffered_BufWriter_write_cold(v15, v4, v17 + (i64)v544, v548);
-    if (at(u8, v15) == 0) v614 = at(u64, v15 + 8); else goto v613;
-v609:;
-    if (v614 == 0) goto v613;
-    u64 v545 = v614 + v544;
-    at(u64, v4 + 136) = at(u64, v4 + 136) + v614;
-    if (v545 < v541) { v544 = v545; goto v543; }
-    if (v542 == 85u) { v512 = v513; goto v511; }
-    v620 = 0; goto v540;
-v613:;
-    at(u8, v4 + 144) = 1;
-    v620 = 1;
-v540:;
-    v622 = v620; goto v621;
-v504:;
-    at(u8, v4 + 144) = 1;
-    v622 = 1;
-v621:;
-    v1196 = v622; goto v623;
-v390:;
-    u8 v624 = at(u8, v33);
-    u64 v625 = at(u64, v33 + 368);
-    u16 v628 = at(u16, at(ptr, v45 + 8) + 64);
-    u8 *v629 = at(ptr, v45 + 168);
-    u64 v630 = at(u64, v45 + 176);
-    if (v630 == 0) { v660 = 0; goto v632; }
-    if (at(u8, v629) & 1) { v670 = 0; goto v636; }
-    if (v630 < 64u) { v660 = 0; goto v632; }
-    v640 = 0;
-v639:;
-    if (v640 == 0xffffffffffffffc0u) goto v642;
-    v647 = 0; v649 = (u8x16){0};
-v646:;
-    u8x16 v650 = v649 | ((-(at(u8x16_1, (v629 + (i64)v640) + (i64)v647) & 1)));
-    u64 v648 = v647 + 16u;
-    if (!(v648 == 64u)) { v647 = v648; v649 = v650; goto v646; }
-    if (!(bits_u8x16(v650) == 0)) { v660 = v640; goto v632; }
-v642:;
-    u64 v641 = v640 + 64u;
-    if ((v630 - v641) < 64u) v660 = v641; else { v640 = v641; goto v639; }
-v632:;
-    if (v660 < v630) v663 = v660; else { v670 = v630; goto v636; }
-v662:;
-    if (at(u8, v629 + v663) & 1) { v670 = v663; goto v636; }
-    u64 v664 = v663 + 1;
-    if (v664 == v630) v670 = v630; else { v663 = v664; goto v662; }
-v636:;
-    u16 v671 = (u16)v670;
-    if (v628 > v671) { v675 = v671; v678 = v670; } else goto v674;
-v673:;
-    u8 *v680 = at(ptr, v45 + 8);
-    if (!(at(u16, v680 + 64) > v675)) { v721 = 0; v722 = (u8 *)table_d0e67785; goto v685; }
-    u8 *v689 = at(ptr_1, v680 + 32);
-    u8 *v691 = at(ptr_1, v680 + 48);
-    u64 v692 = v678 & 65535u;
-    if (!(at(u8, v680 + 70) == 0)) goto v695;
-    u64 v696 = v692 << 1;
-    v717 = ((u64)bswap16(at(u16_1, v689 + (i64)v696))) << 1; v718 = ((u64)bswap16(at(u16_1, v689 + (i64)v696 + 2))) << 1; goto v707;
-v695:;
-    u64 v708 = v692 << 2;
-    v717 = (u64)bswap32(at(u32_1, v689 + (i64)v708)); v718 = (u64)bswap32(at(u32_1, v689 + (i64)v708 + 4));
-v707:;
-    v721 = v718 - v717; v722 = v691 + (i64)v717;
-v685:;
-    if (font_write_bytes_send_padded_823e(v722, v721, v4) & 1) goto v725;
-    u64 v728 = (v678 + 1) & 65535u;
-    u8 *v729 = at(ptr, v45 + 168);
-    u64 v730 = at(u64, v45 + 176);
-    if (!(v730 > v728)) goto v733;
-    if (at(u8, v729 + v728) & 1) { v679 = v728; goto v677; }
-v733:;
-    if ((v730 - v728) < 64u) { v761 = v728; goto v739; }
-    v741 = v728;
-v740:;
-    if (!(v741 < 0xffffffffffffffc0u)) goto v743;
-    v748 = 0; v750 = (u8x16){0};
-v747:;
-    u8x16 v751 = v750 | ((-(at(u8x16_1, (v729 + (i64)v741) + (i64)v748) & 1)));
-    u64 v749 = v748 + 16u;
-    if (!(v749 == 64u)) { v748 = v749; v750 = v751; goto v747; }
-    if (!(bits_u8x16(v751) == 0)) { v761 = v741; goto v739; }
-v743:;
-    u64 v742 = v741 + 64u;
-    if ((v730 - v742) < 64u) v761 = v742; else { v741 = v742; goto v740; }
-v739:;
-    if (v761 < v730) v764 = v761; else { v679 = v730; goto v677; }
-v763:;
-    if (at(u8, v729 + v764) & 1) { v679 = v764; goto v677; }
-    u64 v765 = v764 + 1;
-    if (v765 == v730) v679 = v730; else { v764 = v765; goto v763; }
-v677:;
-    u16 v676 = (u16)v679;
-    if (v628 > v676) { v675 = v676; v678 = v679; goto v673; }
-v674:;
-    flag v773 = v625 != 0;
-    u64 v774 = v773 ? 0 : 4;
-    at(u8, v4 + 145) = 0;
-    if ((v624 == 0) | v773) goto v776;
-    v778 = 0;
-v777:;
-    u64 v782 = v774 - v778;
-    memset(v14, 0, 96u);
-    u64 v783 = at(u64, v4 + 128);
-    u64 v784 = at(u64, v4 + 120);
-    if (!(v782 < (v783 - v784))) goto v788;
-    u64 v789 = v784 + v782;
-    u8 *v790 = at(ptr, v4 + 112);
-    if (!((((u64)(v790 + (i64)v784)) - ((u64)((u8 *)table_18327a07 + (i64)v778))) < v782)) goto v797;
-    memset_any(v790 + (i64)v784, 0, v782);
-    goto v798;
-v797:;
-    memcpy_any(v790 + (i64)v784, (u8 *)table_18327a07 + (i64)v778, v782);
-v798:;
-    at(ptr, v4 + 112) = v790;
-    at(u64, v4 + 120) = v789;
-    at(u64, v4 + 128) = v783;
-    v804 = v782; goto v799;
-v788:;
-    std_io_buffered_BufWriter_write_cold(v14, v4, (u8 *)table_18327a07 + (i64)v778, v782);
-    if (at(u8, v14) == 0) v804 = at(u64, v14 + 8); else goto v803;
-v799:;
-    if (v804 == 0) goto v803;
-    u64 v779 = v804 + v778;
-    at(u64, v4 + 136) = at(u64, v4 + 136) + v804;
-    if (v779 < v774) { v778 = v779; goto v777; }
-v776:;
-    goto v1195;
-v391:;
-    u32 v809 = at(u32, v33 + 376);
-    u8 *v811 = at(ptr_1, at(ptr, v45 + 8));
-    u16 v813 = at(u16_1, v811 + 4);
-    u64 v815 = (u64)bswap16(v813);
-    if (v813 == 0) { v850 = (u8 *)table_d0e67785; v851 = 0; goto v817; }
-    v821 = 0;
-v818:;
-    u64 v823 = v821 << 4;
-    if (!((((at(u8, v811 + (i64)v823 + 12) == 104u) & (at(u8, v811 + (i64)v823 + 13) == 101u)) & (at(u8, v811 + (i64)v823 + 14) == 97u)) & (at(u8, v811 + (i64)v823 + 15) == 100u))) goto v819;
-    v850 = v811 + (i64)((u64)bswap32(at(u32_1, v811 + (i64)v823 + 20))); v851 = (u64)bswap32(at(u32_1, v811 + (i64)v823 + 24)); goto v817;
-v819:;
-    u64 v820 = v821 + 1;
-    if (v820 == v815) { v850 = (u8 *)table_d0e67785; v851 = 0; } else { v821 = v820; goto v818; }
-v817:;
-    if (font_write_made_head_send_head_front_a2d5(v850, v809, v4) & 1) goto v725;
-    u64 v855 = (u64)v850;
-    at(u8, v4 + 145) = 0;
-    v858 = 0;
-v857:;
-    u64 v862 = (u64)38u - v858;
-    memset(v13, 0, 96u);
-    u64 v863 = at(u64, v4 + 128);
-    u64 v864 = at(u64, v4 + 120);
-    if (!(v862 < (v863 - v864))) goto v868;
-    u64 v869 = v864 + v862;
-    u8 *v870 = at(ptr, v4 + 112);
-    u64 v871 = (u64)v870;
-    memset(v4 + 120, 0, 16u);
-    if (!((((u64)(v870 + (i64)v864)) - ((u64)((v850 + 12) + (i64)v858))) < v862)) goto v878;
-    if (v858 > 34u) { v916 = 0; goto v880; }
-    if (((((v864 - v855) - 12u) + v871) - v858) < 32u) { v916 = 0; goto v880; }
-    if (v858 > 22u) { v905 = 0; goto v889; }
-    u64 v891 = v862 & 12u;
-    u64 v892 = v862 & 48u;
-    v894 = 0;
-v893:;
-    at(u8x16_1, (v870 + (i64)v864) + v894) = at(u8x16_1, ((v850 + 12) + (i64)v858) + v894);
-    u64 v895 = v894 + 16u;
-    if (!(v895 == v892)) { v894 = v895; goto v893; }
-    if (v862 == v892) goto v902;
-    if (v891 == 0) { v916 = v892; goto v880; }
-    v905 = v892;
-v889:;
-    u64 v906 = v862 & 60u;
-    v908 = v905;
-v907:;
-    at(u8x4_1, (v870 + (i64)v864) + v908) = at(u8x4_1, ((v850 + 12) + (i64)v858) + v908);
-    u64 v909 = v908 + 4;
-    if (!(v909 == v906)) { v908 = v909; goto v907; }
-    if (v862 == v906) goto v902;
-    v916 = v906;
-v880:;
-    v918 = v916;
-v917:;
-    at(u8, (v870 + (i64)v864) + v918) = at(u8, ((v850 + 12) + (i64)v858) + v918);
-    u64 v919 = v918 + 1;
-    if (v919 == v862) goto v902;
-    v918 = v919; goto v917;
-v878:;
-    memmove_any(v870 + (i64)v864, (v850 + 12) + (i64)v858, v862);
-v902:;
-    at(ptr, v4 + 112) = v870;
-    at(u64, v4 + 120) = v869;
-    at(u64, v4 + 128) = v863;
-    v929 = v862; goto v860;
-v868:;
-    std_io_buffered_BufWriter_write_cold(v13, v4, (v850 + 12) + (i64)v858, v862);
-    u64 v925 = at(u64, v13 + 8);
-    if (!((at(u8, v13) != 0) ? 1 : (v925 == 0))) { v929 = v925; goto v860; }
-v803:;
-    at(u8, v4 + 144) = 1;
-v725:;
-    goto v324;
-v860:;
-    u64 v859 = v929 + v858;
-    at(u64, v4 + 136) = at(u64, v4 + 136) + v929;
-    if (v859 < 38u) { v858 = v859; goto v857; }
-    u8 v934 = font_write_made_head_send_head_end_7cc9(v850, v851, v4);
-    v1196 = v934; goto v623;
-v392:;
-    memset(v11, 0, 1024u);
-    u8 *v935 = at(ptr, v45 + 168);
-    u64 v936 = at(u64, v45 + 176);
-    if (v936 == 0) { v966 = 0; goto v938; }
-    if (at(u8, v935) & 1) { v976 = 0; goto v942; }
-    if (v936 < 64u) { v966 = 0; goto v938; }
-    v946 = 0;
-v945:;
-    if (v946 == 0xffffffffffffffc0u) goto v948;
-    v953 = 0; v955 = (u8x16){0};
-v952:;
-    u8x16 v956 = v955 | ((-(at(u8x16_1, (v935 + (i64)v946) + (i64)v953) & 1)));
-    u64 v954 = v953 + 16u;
-    if (!(v954 == 64u)) { v953 = v954; v955 = v956; goto v952; }
-    if (!(bits_u8x16(v956) == 0)) { v966 = v946; goto v938; }
-v948:;
-    u64 v947 = v946 + 64u;
-    if ((v936 - v947) < 64u) v966 = v947; else { v946 = v947; goto v945; }
-v938:;
-    if (v966 < v936) v969 = v966; else { v976 = v936; goto v942; }
-v968:;
-    if (at(u8, v935 + v969) & 1) { v976 = v969; goto v942; }
-    u64 v970 = v969 + 1;
-    if (v970 == v936) v976 = v936; else { v969 = v970; goto v968; }
-v942:;
-    u16 v977 = (u16)v976;
-    u16 v980 = at(u16, at(ptr, v45 + 8) + 64);
-    at(u32, v10) = 0;
-    at(u8, v4 + 145) = 0;
-    v982 = 0;
-v981:;
-    u64 v986 = (u64)4 - v982;
-    memset(v9, 0, 96u);
-    u64 v987 = at(u64, v4 + 128);
-    u64 v988 = at(u64, v4 + 120);
-    if (!(v986 < (v987 - v988))) goto v992;
-    u64 v993 = v988 + v986;
-    u8 *v994 = at(ptr, v4 + 112);
-    if ((((u64)(v994 + (i64)v988)) - ((u64)(v10 + (i64)v982))) < v986) v1003 = 0; else goto v1001;
-v1000:;
-    at(u8, (v994 + (i64)v988) + v1003) = at(u8, (v10 + (i64)v982) + v1003);
-    u64 v1004 = v1003 + 1;
-    if (v1004 == v986) goto v1002;
-    v1003 = v1004; goto v1000;
-v1001:;
-    memmove_any(v994 + (i64)v988, v10 + (i64)v982, v986);
-v1002:;
-    at(ptr, v4 + 112) = v994;
-    at(u64, v4 + 120) = v993;
-    at(u64, v4 + 128) = v987;
-    v1015 = v986; goto v984;
-v992:;
-    std_io_buffered_BufWriter_write_cold(v9, v4, v10 + (i64)v982, v986);
-    u64 v1010 = at(u64, v9 + 8);
-    if (!((at(u8, v9) != 0) ? 1 : (v1010 == 0))) { v1015 = v1010; goto v984; }
-    at(u8, v4 + 144) = 1;
-    v1112 = 1; goto v1021;
-v984:;
-    u64 v983 = v1015 + v982;
-    at(u64, v4 + 136) = at(u64, v4 + 136) + v1015;
-    if (v983 < 4) { v982 = v983; goto v981; }
-    if (v980 == 0) { v1112 = 0; goto v1021; }
-    v1023 = 0; v1026 = v977; v1028 = 0;
-v1022:;
-    u16 v1031 = umin16((u16)(v980 - v1028), 256u);
-    u16 v1029 = (u16)(v1031 + v1028);
-    u32_u16 v1032 = font_write_made_loca_gather_offsets(v45, v1028, v1029, v1023, v1026, v11);
-    u64 v1034 = (u64)((u16)((u32)v1031 << 2));
-    at(u8, v4 + 145) = 0;
-    v1036 = 0;
-v1035:;
-    u64 v1040 = v1034 - v1036;
+    if (v1228 == 0) goto v657;
+    v1231 = 0;
+v1230:;
+    u64 v1235 = v1228 - v1231;
     memset(v8, 0, 96u);
-    u64 v1041 = at(u64, v4 + 128);
-    u64 v1042 = at(u64, v4 + 120);
-    if (!(v1040 < (v1041 - v1042))) goto v1046;
-    u64 v1047 = v1042 + v1040;
-    u8 *v1048 = at(ptr, v4 + 112);
-    u64 v1049 = (u64)v1048;
-    if (!((((u64)(v1048 + (i64)v1042)) - ((u64)(v11 + (i64)v1036))) < v1040)) goto v1056;
-    if (v1040 < 4) { v1093 = 0; goto v1058; }
-    if (((v1042 + v1049) - (v1036 + v12)) < 32u) { v1093 = 0; goto v1058; }
-    if (v1040 < 16u) { v1082 = 0; goto v1066; }
-    u64 v1068 = v1040 & 12u;
-    u64 v1069 = v1040 & 2032u;
-    v1071 = 0;
-v1070:;
-    at(u8x16_1, (v1048 + (i64)v1042) + v1071) = at(u8x16_1, (v11 + (i64)v1036) + v1071);
-    u64 v1072 = v1071 + 16u;
-    if (!(v1072 == v1069)) { v1071 = v1072; goto v1070; }
-    if (v1040 == v1069) goto v1079;
-    if (v1068 == 0) { v1093 = v1069; goto v1058; }
-    v1082 = v1069;
-v1066:;
-    u64 v1083 = v1040 & 2044u;
-    v1085 = v1082;
-v1084:;
-    at(u8x4_1, (v1048 + (i64)v1042) + v1085) = at(u8x4_1, (v11 + (i64)v1036) + v1085);
-    u64 v1086 = v1085 + 4;
-    if (!(v1086 == v1083)) { v1085 = v1086; goto v1084; }
-    if (v1040 == v1083) goto v1079;
-    v1093 = v1083;
-v1058:;
-    v1095 = v1093;
-v1094:;
-    at(u8, (v1048 + (i64)v1042) + v1095) = at(u8, (v11 + (i64)v1036) + v1095);
-    u64 v1096 = v1095 + 1;
-    if (v1096 == v1040) goto v1079;
-    v1095 = v1096; goto v1094;
-v1056:;
-    memmove_any(v1048 + (i64)v1042, v11 + (i64)v1036, v1040);
-v1079:;
-    at(ptr, v4 + 112) = v1048;
-    at(u64, v4 + 120) = v1047;
-    at(u64, v4 + 128) = v1041;
-    v1106 = v1040; goto v1101;
-v1046:;
-    std_io_buffered_BufWriter_write_cold(v8, v4, v11 + (i64)v1036, v1040);
-    if (at(u8, v8) == 0) v1106 = at(u64, v8 + 8); else goto v1105;
-v1101:;
-    if (v1106 == 0) goto v1105;
-    u64 v1037 = v1106 + v1036;
-    at(u64, v4 + 136) = at(u64, v4 + 136) + v1106;
-    if (v1037 < v1034) { v1036 = v1037; goto v1035; }
-    if (v1029 < v980) { v1023 = v1032._0; v1026 = v1032._1; v1028 = v1029; goto v1022; }
-    v1112 = 0; goto v1021;
-v1105:;
-    at(u8, v4 + 144) = 1;
-    v1112 = 1;
-v1021:;
-    v1196 = v1112;
-v623:;
-    if (v1196 & 1) goto v324;
-v1195:;
-    u32 v1203 = ((u32)0 - at(u32, v33 + (i64)(v382 * 12u) + 8)) & 3;
-    u64 v1204 = (u64)v1203;
-    at(u8, v4 + 145) = 0;
-    if (v1203 == 0) goto v384;
-    v1207 = 0;
-v1206:;
-    u64 v1211 = v1204 - v1207;
-    memset(v6, 0, 96u);
-    u64 v1212 = at(u64, v4 + 128);
-    u64 v1213 = at(u64, v4 + 120);
-    if (!(v1211 < (v1212 - v1213))) goto v1217;
-    u64 v1218 = v1213 + v1211;
-    u8 *v1219 = at(ptr, v4 + 112);
-    if (!((((u64)(v1219 + (i64)v1213)) - ((u64)((u8 *)table_18327a07 + (i64)v1207))) < v1211)) goto v1226;
-    memset_any(v1219 + (i64)v1213, 0, v1211);
-    goto v1227;
-v1226:;
-    memcpy_any(v1219 + (i64)v1213, (u8 *)table_18327a07 + (i64)v1207, v1211);
-v1227:;
-    at(ptr, v4 + 112) = v1219;
-    at(u64, v4 + 120) = v1218;
-    at(u64, v4 + 128) = v1212;
-    v1233 = v1211; goto v1228;
-v1217:;
-    std_io_buffered_BufWriter_write_cold(v6, v4, (u8 *)table_18327a07 + (i64)v1207, v1211);
-    if (at(u8, v6) == 0) v1233 = at(u64, v6 + 8); else goto v1232;
-v1228:;
-    if (v1233 == 0) goto v1232;
-    u64 v1208 = v1233 + v1207;
-    at(u64, v4 + 136) = at(u64, v4 + 136) + v1233;
-    if (v1208 < v1204) { v1207 = v1208; goto v1206; }
-v384:;
-    u64 v383 = v382 + 1;
-    if (!(v383 == 29u)) { v382 = v383; goto v381; }
-    v1242 = 0; v1243 = v161; v1244 = 0; goto v1240;
-v1232:;
-    at(u8, v4 + 144) = 1;
-v324:;
-    v1242 = 1; v1243 = 2; v1244 = at(u64, v4 + 136);
-v1240:;
-    memcpy(v51, v45, 320u);
-    font_subset_kind_source_CutOfKind_drop_3cda(v51);
-    if (v104 ? 1 : (v102 == 0)) goto v1247;
-    sys_rattle_dealloc(v98);
-v1247:;
-    at(u64_1, v0) = v1242;
-    at(u64_1, v0 + 8) = v1243;
-    at(u64_1, v0 + 16) = v1244;
-    return;
-v115:;
-v116:;
-    if (v104 ? 1 : (v102 == 0)) goto v1251;
-    sys_rattle_dealloc(v98);
+    u64 v1236 = at(u64, v4 + 128);
+    u64 v1237 = at(u64, v4 + 120);
+    if (!(v1235 < (v1236 - v1237))) goto v1241;
+    u64 v1242 = v1237 + v1235;
+    u8 *v1243 = at(ptr, v4 + 112);
+    u64 v1244 = (u64)v1243;
+    memset(v4 + 120, 0, 16u);
+    if (!((((u64)(v1243 + (i64)v1237)) - ((u64)(v1226 + (i64)v1231))) < v1235)) goto v1251;
+    if (v1235 < 4) { v1288 = 0; goto v1253; }
+    if (((v1237 + v1244) - (v1231 + v1227)) < 32u) { v1288 = 0; goto v1253; }
+    if (v1235 < 16u) { v1277 = 0; goto v1261; }
+    u64 v1263 = v1235 & 12u;
+    u64 v1264 = v1235 & 0xfffffffffffffff0u;
+    v1266 = 0;
+v1265:;
+    at(u8x16_1, (v1243 + (i64)v1237) + v1266) = at(u8x16_1, (v1226 + (i64)v1231) + v1266);
+    u64 v1267 = v1266 + 16u;
+    if (!(v1267 == v1264)) { v1266 = v1267; goto v1265; }
+    if (v1235 == v1264) goto v1274;
+    if (v1263 == 0) { v1288 = v1264; goto v1253; }
+    v1277 = v1264;
+v1261:;
+    u64 v1278 = v1235 & 0xfffffffffffffffcu;
+    v1280 = v1277;
+v1279:;
+    at(u8x4_1, (v1243 + (i64)v1237) + v1280) = at(u8x4_1, (v1226 + (i64)v1231) + v1280);
+    u64 v1281 = v1280 + 4;
+    if (!(v1281 == v1278)) { v1280 = v1281; goto v1279; }
+    if (v1235 == v1278) goto v1274;
+    v1288 = v1278;
+v1253:;
+    v1290 = v1288;
+v1289:;
+    at(u8, (v1243 + (i64)v1237) + v1290) = at(u8, (v1226 + (i64)v1231) + v1290);
+    u64 v1291 = v1290 + 1;
+    if (v1291 == v1235) goto v1274;
+    v1290 = v1291; goto v1289;
 v1251:;
+    memmove_any(v1243 + (i64)v1237, v1226 + (i64)v1231, v1235);
+v1274:;
+    at(ptr, v4 + 112) = v1243;
+    at(u64, v4 + 120) = v1242;
+    at(u64, v4 + 128) = v1236;
+    v1301 = v1235; goto v1296;
+v1241:;
+    std_io_buffered_BufWriter_write_cold(v8, v4, v1226 + (i64)v1231, v1235);
+    if (at(u8, v8) == 0) v1301 = at(u64, v8 + 8); else goto v1300;
+v1296:;
+    if (v1301 == 0) goto v1300;
+    u64 v1232 = v1301 + v1231;
+    at(u64, v4 + 136) = at(u64, v4 + 136) + v1301;
+    if (v1232 < v1228) { v1231 = v1232; goto v1230; }
+    goto v657;
+v1300:;
+    at(u8, v4 + 144) = 1;
+    goto v656;
+v396:;
+    u8 v400 = at(u8, v35);
+    u32 v401 = at(u32, v35 + 360);
+    if (!(at(u8, v47 + 320) == 1)) goto v405;
+    v421 = at(ptr, v47 + 328); v422 = at(u64, v47 + 336); goto v408;
+v405:;
+    if (!(at(u8, v47 + 112) == 1)) { v421 = (u8 *)table_55ba7287; v422 = 0; goto v408; }
+    u8 *v412 = at(ptr, v47 + 120);
+    if (!(at(u8, v412 + 312) == 1)) { v421 = (u8 *)table_55ba7287; v422 = 0; goto v408; }
+    v421 = at(ptr, v412 + 320); v422 = at(u64, v412 + 328);
+v408:;
+    u64 v423 = (u64)v421;
+    flag v424 = v422 == 0;
+    u32 v425 = v401 * 12u;
+    u32 v427 = bswap32(v425 + 16u);
+    u32 v428 = bswap32(v401);
+    if (!v424) goto v430;
+    flag v431 = v400 == 0;
+    u32 v439 = v431 ? v428 : v427;
+    v453 = v431 ? 1 : 2; v454 = v431 ? 3 : 0; v455 = v431 ? 10u : 4; v456 = v431 ? 12u : 20u; v457 = v431 ? 12u : 3; v458 = v431 ? 0 : 10u; v459 = v431 ? v427 : 335544320u; v460 = v431 ? 0 : 12u; v461 = 0; v462 = (u8)v439; v463 = (u8)(v439 >> 8); v464 = (u8)(v439 >> 16u); v465 = (u8)(v439 >> 24u); v466 = 0; v467 = v431 ? 0 : v428; v468 = 0; v469 = v431 ? 28u : 36u; goto v450;
+v430:;
+    v453 = 3; v454 = 0; v455 = 4; v456 = 28u; v457 = 0; v458 = 5; v459 = bswap32(v425 + 44u); v460 = 3; v461 = 10u; v462 = 0; v463 = 0; v464 = 0; v465 = 28u; v466 = 3072u; v467 = v427; v468 = v428; v469 = 44u;
+v450:;
+    at(u8, v22) = 0;
+    at(u8, v22 + 1) = 0;
+    at(u8, v22 + 2) = 0;
+    at(u8, v22 + 3) = v453;
+    at(u8, v22 + 4) = 0;
+    at(u8, v22 + 5) = v454;
+    at(u8, v22 + 6) = 0;
+    at(u8, v22 + 7) = v455;
+    at(u8, v22 + 8) = 0;
+    at(u8, v22 + 9) = 0;
+    at(u8, v22 + 10) = 0;
+    at(u8, v22 + 11) = v456;
+    at(u8, v22 + 12) = 0;
+    at(u8, v22 + 13) = v457;
+    at(u8, v22 + 14) = 0;
+    at(u8, v22 + 15) = v458;
+    at(u32, v22 + 16) = v459;
+    at(u8, v22 + 20) = 0;
+    at(u8, v22 + 21) = v460;
+    at(u8, v22 + 22) = 0;
+    at(u8, v22 + 23) = v461;
+    at(u8, v22 + 24) = v462;
+    at(u8, v22 + 25) = v463;
+    at(u8, v22 + 26) = v464;
+    at(u8, v22 + 27) = v465;
+    at(u32, v22 + 28) = v466;
+    at(u32, v22 + 32) = v467;
+    at(u32, v22 + 36) = 0;
+    at(u32, v22 + 40) = v468;
+    at(u32, v22 + 44) = 0;
+    at(u64, v22 + 48) = v469;
+    at(u8, v4 + 145) = 0;
+    v471 = 0;
+v470:;
+    u64 v475 = v469 - v471;
+    memset(v21, 0, 96u);
+    u64 v476 = at(u64, v4 + 128);
+    u64 v477 = at(u64, v4 + 120);
+    if (!(v475 < (v476 - v477))) goto v481;
+    u64 v482 = v477 + v475;
+    u8 *v483 = at(ptr, v4 + 112);
+    u64 v484 = (u64)v483;
+    if (!((((u64)(v483 + (i64)v477)) - ((u64)(v22 + (i64)v471))) < v475)) goto v491;
+    if (v475 < 4) { v528 = 0; goto v493; }
+    if (((v477 + v484) - (v471 + v23)) < 32u) { v528 = 0; goto v493; }
+    if (v475 < 16u) { v517 = 0; goto v501; }
+    u64 v503 = v475 & 12u;
+    u64 v504 = v475 & 48u;
+    v506 = 0;
+v505:;
+    at(u8x16_1, (v483 + (i64)v477) + v506) = at(u8x16_1, (v22 + (i64)v471) + v506);
+    u64 v507 = v506 + 16u;
+    if (!(v507 == v504)) { v506 = v507; goto v505; }
+    if (v475 == v504) goto v514;
+    if (v503 == 0) { v528 = v504; goto v493; }
+    v517 = v504;
+v501:;
+    u64 v518 = v475 & 60u;
+    v520 = v517;
+v519:;
+    at(u8x4_1, (v483 + (i64)v477) + v520) = at(u8x4_1, (v22 + (i64)v471) + v520);
+    u64 v521 = v520 + 4;
+    if (!(v521 == v518)) { v520 = v521; goto v519; }
+    if (v475 == v518) goto v514;
+    v528 = v518;
+v493:;
+    v530 = v528;
+v529:;
+    at(u8, (v483 + (i64)v477) + v530) = at(u8, (v22 + (i64)v471) + v530);
+    u64 v531 = v530 + 1;
+    if (v531 == v475) goto v514;
+    v530 = v531; goto v529;
+v491:;
+    memmove_any(v483 + (i64)v477, v22 + (i64)v471, v475);
+v514:;
+    at(ptr, v4 + 112) = v483;
+    at(u64, v4 + 120) = v482;
+    at(u64, v4 + 128) = v476;
+    v541 = v475; goto v536;
+v481:;
+    std_io_buffered_BufWriter_write_cold(v21, v4, v22 + (i64)v471, v475);
+    if (at(u8, v21) == 0) v541 = at(u64, v21 + 8); else goto v540;
+v536:;
+    if (v541 == 0) goto v540;
+    u64 v472 = v541 + v471;
+    at(u64, v4 + 136) = at(u64, v4 + 136) + v541;
+    if (v472 < v469) { v471 = v472; goto v470; }
+    memset(v19, 0, 1024u);
+    v548 = 0;
+v547:;
+    memset(v18, 0, 16u);
+    v552 = v548; v555 = 0;
+v551:;
+    font_subset_kind_source_CutOfKindSource_next_run(v18, v47, v552);
+    if (!(at(u8, v18) == 1)) goto v559;
+    u32 v561 = at(u32, v18 + 8);
+    u64 v563 = v555 * 12u;
+    u16 v562 = at(u16, v18 + 12);
+    at(u32_1, v19 + v563) = bswap32(at(u32, v18 + 4));
+    at(u32_1, v19 + v563 + 4) = bswap32(v561);
+    at(u32_1, v19 + v563 + 8) = bswap32((u32)v562);
+    u32 v553 = v561 + 1;
+    u64 v556 = v555 + 1;
+    if (!(v556 == 85u)) { v552 = v553; v555 = v556; goto v551; }
+    at(u8, v4 + 145) = 0;
+    v577 = 1020u; v578 = 85u; v549 = v553; goto v573;
+v559:;
+    at(u8, v4 + 145) = 0;
+    if (v555 == 0) goto v576;
+    v577 = v555 * 12u; v578 = v555; v549 = v552;
+v573:;
+    v580 = 0;
+v579:;
+    u64 v584 = v577 - v580;
+    memset(v17, 0, 96u);
+    u64 v585 = at(u64, v4 + 128);
+    u64 v586 = at(u64, v4 + 120);
+    if (!(v584 < (v585 - v586))) goto v590;
+    u64 v591 = v586 + v584;
+    u8 *v592 = at(ptr, v4 + 112);
+    u64 v593 = (u64)v592;
+    if (!((((u64)(v592 + (i64)v586)) - ((u64)(v19 + (i64)v580))) < v584)) goto v600;
+    if (v584 < 4) { v637 = 0; goto v602; }
+    if (((v586 + v593) - (v580 + v20)) < 32u) { v637 = 0; goto v602; }
+    if (v584 < 16u) { v626 = 0; goto v610; }
+    u64 v612 = v584 & 12u;
+    u64 v613 = v584 & 0x7ffffffffffffff0u;
+    v615 = 0;
+v614:;
+    at(u8x16_1, (v592 + (i64)v586) + v615) = at(u8x16_1, (v19 + (i64)v580) + v615);
+    u64 v616 = v615 + 16u;
+    if (!(v616 == v613)) { v615 = v616; goto v614; }
+    if (v584 == v613) goto v623;
+    if (v612 == 0) { v637 = v613; goto v602; }
+    v626 = v613;
+v610:;
+    u64 v627 = v584 & 0x7ffffffffffffffcu;
+    v629 = v626;
+v628:;
+    at(u8x4_1, (v592 + (i64)v586) + v629) = at(u8x4_1, (v19 + (i64)v580) + v629);
+    u64 v630 = v629 + 4;
+    if (!(v630 == v627)) { v629 = v630; goto v628; }
+    if (v584 == v627) goto v623;
+    v637 = v627;
+v602:;
+    v639 = v637;
+v638:;
+    at(u8, (v592 + (i64)v586) + v639) = at(u8, (v19 + (i64)v580) + v639);
+    u64 v640 = v639 + 1;
+    if (v640 == v584) goto v623;
+    v639 = v640; goto v638;
+v600:;
+    memmove_any(v592 + (i64)v586, v19 + (i64)v580, v584);
+v623:;
+    at(ptr, v4 + 112) = v592;
+    at(u64, v4 + 120) = v591;
+    at(u64, v4 + 128) = v585;
+    v650 = v584; goto v645;
+v590:;
+    std_io_buffered_BufWriter_write_cold(v17, v4, v19 + (i64)v580, v584);
+    if (at(u8, v17) == 0) v650 = at(u64, v17 + 8); else goto v649;
+v645:;
+    if (v650 == 0) goto v649;
+    u64 v581 = v650 + v580;
+    at(u64, v4 + 136) = at(u64, v4 + 136) + v650;
+    if (v581 < v577) { v580 = v581; goto v579; }
+    if (v578 == 85u) { v548 = v549; goto v547; }
+v576:;
+    at(u8, v4 + 145) = 0;
+    if (v424) goto v657;
+    v659 = 0;
+v658:;
+    u64 v663 = v422 - v659;
+    memset(v16, 0, 96u);
+    u64 v664 = at(u64, v4 + 128);
+    u64 v665 = at(u64, v4 + 120);
+    if (!(v663 < (v664 - v665))) goto v669;
+    u64 v670 = v665 + v663;
+    u8 *v671 = at(ptr, v4 + 112);
+    u64 v672 = (u64)v671;
+    memset(v4 + 120, 0, 16u);
+    if (!((((u64)(v671 + (i64)v665)) - ((u64)(v421 + (i64)v659))) < v663)) goto v679;
+    if (v663 < 4) { v716 = 0; goto v681; }
+    if (((v665 + v672) - (v659 + v423)) < 32u) { v716 = 0; goto v681; }
+    if (v663 < 16u) { v705 = 0; goto v689; }
+    u64 v691 = v663 & 12u;
+    u64 v692 = v663 & 0xfffffffffffffff0u;
+    v694 = 0;
+v693:;
+    at(u8x16_1, (v671 + (i64)v665) + v694) = at(u8x16_1, (v421 + (i64)v659) + v694);
+    u64 v695 = v694 + 16u;
+    if (!(v695 == v692)) { v694 = v695; goto v693; }
+    if (v663 == v692) goto v702;
+    if (v691 == 0) { v716 = v692; goto v681; }
+    v705 = v692;
+v689:;
+    u64 v706 = v663 & 0xfffffffffffffffcu;
+    v708 = v705;
+v707:;
+    at(u8x4_1, (v671 + (i64)v665) + v708) = at(u8x4_1, (v421 + (i64)v659) + v708);
+    u64 v709 = v708 + 4;
+    if (!(v709 == v706)) { v708 = v709; goto v707; }
+    if (v663 == v706) goto v702;
+    v716 = v706;
+v681:;
+    v718 = v716;
+v717:;
+    at(u8, (v671 + (i64)v665) + v718) = at(u8, (v421 + (i64)v659) + v718);
+    u64 v719 = v718 + 1;
+    if (v719 == v663) goto v702;
+    v718 = v719; goto v717;
+v679:;
+    memmove_any(v671 + (i64)v665, v421 + (i64)v659, v663);
+v702:;
+    at(ptr, v4 + 112) = v671;
+    at(u64, v4 + 120) = v670;
+    at(u64, v4 + 128) = v664;
+    v729 = v663; goto v724;
+v669:;
+    std_io_buffered_BufWriter_write_cold(v16, v4, v421 + (i64)v659, v663);
+    if (at(u8, v16) == 0) v729 = at(u64, v16 + 8); else goto v728;
+v724:;
+    if (v729 == 0) goto v728;
+    u64 v660 = v729 + v659;
+    at(u64, v4 + 136) = at(u64, v4 + 136) + v729;
+    if (v660 < v422) { v659 = v660; goto v658; }
+    goto v657;
+v728:;
+    at(u8, v4 + 144) = 1;
+    goto v656;
+v649:;
+    at(u8, v4 + 144) = 1;
+    goto v656;
+v540:;
+    at(u8, v4 + 144) = 1;
+    goto v656;
+v397:;
+    u8 v734 = at(u8, v35);
+    u64 v735 = at(u64, v35 + 368);
+    u16 v738 = at(u16, at(ptr, v47 + 8) + 64);
+    u8 *v739 = at(ptr, v47 + 168);
+    u64 v740 = at(u64, v47 + 176);
+    if (v740 == 0) { v770 = 0; goto v742; }
+    if (at(u8, v739) & 1) { v780 = 0; goto v746; }
+    if (v740 < 64u) { v770 = 0; goto v742; }
+    v750 = 0;
+v749:;
+    if (v750 == 0xffffffffffffffc0u) goto v752;
+    v757 = 0; v759 = (u8x16){0};
+v756:;
+    u8x16 v760 = v759 | ((-(at(u8x16_1, (v739 + (i64)v750) + (i64)v757) & 1)));
+    u64 v758 = v757 + 16u;
+    if (!(v758 == 64u)) { v757 = v758; v759 = v760; goto v756; }
+    if (!(bits_u8x16(v760) == 0)) { v770 = v750; goto v742; }
+v752:;
+    u64 v751 = v750 + 64u;
+    if ((v740 - v751) < 64u) v770 = v751; else { v750 = v751; goto v749; }
+v742:;
+    if (v770 < v740) v773 = v770; else { v780 = v740; goto v746; }
+v772:;
+    if (at(u8, v739 + v773) & 1) { v780 = v773; goto v746; }
+    u64 v774 = v773 + 1;
+    if (v774 == v740) v780 = v740; else { v773 = v774; goto v772; }
+v746:;
+    u16 v781 = (u16)v780;
+    if (v738 > v781) { v785 = v781; v788 = v780; } else goto v784;
+v783:;
+    u8 *v790 = at(ptr, v47 + 8);
+    if (!(at(u16, v790 + 64) > v785)) { v831 = 0; v832 = (u8 *)table_55ba7287; goto v795; }
+    u8 *v799 = at(ptr_1, v790 + 32);
+    u8 *v801 = at(ptr_1, v790 + 48);
+    u64 v802 = v788 & 65535u;
+    if (!(at(u8, v790 + 70) == 0)) goto v805;
+    u64 v806 = v802 << 1;
+    v827 = ((u64)bswap16(at(u16_1, v799 + (i64)v806))) << 1; v828 = ((u64)bswap16(at(u16_1, v799 + (i64)v806 + 2))) << 1; goto v817;
+v805:;
+    u64 v818 = v802 << 2;
+    v827 = (u64)bswap32(at(u32_1, v799 + (i64)v818)); v828 = (u64)bswap32(at(u32_1, v799 + (i64)v818 + 4));
+v817:;
+    v831 = v828 - v827; v832 = v801 + (i64)v827;
+v795:;
+    if (font_write_bytes_send_padded_823e(v832, v831, v4) & 1) goto v656;
+    u64 v837 = (v788 + 1) & 65535u;
+    u8 *v838 = at(ptr, v47 + 168);
+    u64 v839 = at(u64, v47 + 176);
+    if (!(v839 > v837)) goto v842;
+    if (at(u8, v838 + v837) & 1) { v789 = v837; goto v787; }
+v842:;
+    if ((v839 - v837) < 64u) { v870 = v837; goto v848; }
+    v850 = v837;
+v849:;
+    if (!(v850 < 0xffffffffffffffc0u)) goto v852;
+    v857 = 0; v859 = (u8x16){0};
+v856:;
+    u8x16 v860 = v859 | ((-(at(u8x16_1, (v838 + (i64)v850) + (i64)v857) & 1)));
+    u64 v858 = v857 + 16u;
+    if (!(v858 == 64u)) { v857 = v858; v859 = v860; goto v856; }
+    if (!(bits_u8x16(v860) == 0)) { v870 = v850; goto v848; }
+v852:;
+    u64 v851 = v850 + 64u;
+    if ((v839 - v851) < 64u) v870 = v851; else { v850 = v851; goto v849; }
+v848:;
+    if (v870 < v839) v873 = v870; else { v789 = v839; goto v787; }
+v872:;
+    if (at(u8, v838 + v873) & 1) { v789 = v873; goto v787; }
+    u64 v874 = v873 + 1;
+    if (v874 == v839) v789 = v839; else { v873 = v874; goto v872; }
+v787:;
+    u16 v786 = (u16)v789;
+    if (v738 > v786) { v785 = v786; v788 = v789; goto v783; }
+v784:;
+    flag v882 = v735 != 0;
+    u64 v883 = v882 ? 0 : 4;
+    at(u8, v4 + 145) = 0;
+    if ((v734 == 0) | v882) goto v657;
+    v886 = 0;
+v885:;
+    u64 v890 = v883 - v886;
+    memset(v15, 0, 96u);
+    u64 v891 = at(u64, v4 + 128);
+    u64 v892 = at(u64, v4 + 120);
+    if (!(v890 < (v891 - v892))) goto v896;
+    u64 v897 = v892 + v890;
+    u8 *v898 = at(ptr, v4 + 112);
+    if (!((((u64)(v898 + (i64)v892)) - ((u64)((u8 *)table_18327a07 + (i64)v886))) < v890)) goto v905;
+    memset_any(v898 + (i64)v892, 0, v890);
+    goto v906;
+v905:;
+    memcpy_any(v898 + (i64)v892, (u8 *)table_18327a07 + (i64)v886, v890);
+v906:;
+    at(ptr, v4 + 112) = v898;
+    at(u64, v4 + 120) = v897;
+    at(u64, v4 + 128) = v891;
+    v912 = v890; goto v907;
+v896:;
+    std_io_buffered_BufWriter_write_cold(v15, v4, (u8 *)table_18327a07 + (i64)v886, v890);
+    if (at(u8, v15) == 0) v912 = at(u64, v15 + 8); else goto v911;
+v907:;
+    if (v912 == 0) goto v911;
+    u64 v887 = v912 + v886;
+    at(u64, v4 + 136) = at(u64, v4 + 136) + v912;
+    if (v887 < v883) { v886 = v887; goto v885; }
+v657:;
+    goto v1306;
+v911:;
+    at(u8, v4 + 144) = 1;
+    goto v656;
+v398:;
+    u32 v917 = at(u32, v35 + 376);
+    u8 *v919 = at(ptr_1, at(ptr, v47 + 8));
+    u16 v921 = at(u16_1, v919 + 4);
+    u64 v923 = (u64)bswap16(v921);
+    if (v921 == 0) { v958 = (u8 *)table_55ba7287; v959 = 0; goto v925; }
+    v929 = 0;
+v926:;
+    u64 v931 = v929 << 4;
+    if (!((((at(u8, v919 + (i64)v931 + 12) == 104u) & (at(u8, v919 + (i64)v931 + 13) == 101u)) & (at(u8, v919 + (i64)v931 + 14) == 97u)) & (at(u8, v919 + (i64)v931 + 15) == 100u))) goto v927;
+    v958 = v919 + (i64)((u64)bswap32(at(u32_1, v919 + (i64)v931 + 20))); v959 = (u64)bswap32(at(u32_1, v919 + (i64)v931 + 24)); goto v925;
+v927:;
+    u64 v928 = v929 + 1;
+    if (v928 == v923) { v958 = (u8 *)table_55ba7287; v959 = 0; } else { v929 = v928; goto v926; }
+v925:;
+    if (font_write_made_head_send_head_front_a2d5(v958, v917, v4) & 1) goto v656;
+    u64 v963 = (u64)v958;
+    at(u8, v4 + 145) = 0;
+    v966 = 0;
+v965:;
+    u64 v970 = (u64)38u - v966;
+    memset(v14, 0, 96u);
+    u64 v971 = at(u64, v4 + 128);
+    u64 v972 = at(u64, v4 + 120);
+    if (!(v970 < (v971 - v972))) goto v976;
+    u64 v977 = v972 + v970;
+    u8 *v978 = at(ptr, v4 + 112);
+    u64 v979 = (u64)v978;
+    memset(v4 + 120, 0, 16u);
+    if (!((((u64)(v978 + (i64)v972)) - ((u64)((v958 + 12) + (i64)v966))) < v970)) goto v986;
+    if (v966 > 34u) { v1024 = 0; goto v988; }
+    if (((((v972 - v963) - 12u) + v979) - v966) < 32u) { v1024 = 0; goto v988; }
+    if (v966 > 22u) { v1013 = 0; goto v997; }
+    u64 v999 = v970 & 12u;
+    u64 v1000 = v970 & 48u;
+    v1002 = 0;
+v1001:;
+    at(u8x16_1, (v978 + (i64)v972) + v1002) = at(u8x16_1, ((v958 + 12) + (i64)v966) + v1002);
+    u64 v1003 = v1002 + 16u;
+    if (!(v1003 == v1000)) { v1002 = v1003; goto v1001; }
+    if (v970 == v1000) goto v1010;
+    if (v999 == 0) { v1024 = v1000; goto v988; }
+    v1013 = v1000;
+v997:;
+    u64 v1014 = v970 & 60u;
+    v1016 = v1013;
+v1015:;
+    at(u8x4_1, (v978 + (i64)v972) + v1016) = at(u8x4_1, ((v958 + 12) + (i64)v966) + v1016);
+    u64 v1017 = v1016 + 4;
+    if (!(v1017 == v1014)) { v1016 = v1017; goto v1015; }
+    if (v970 == v1014) goto v1010;
+    v1024 = v1014;
+v988:;
+    v1026 = v1024;
+v1025:;
+    at(u8, (v978 + (i64)v972) + v1026) = at(u8, ((v958 + 12) + (i64)v966) + v1026);
+    u64 v1027 = v1026 + 1;
+    if (v1027 == v970) goto v1010;
+    v1026 = v1027; goto v1025;
+v986:;
+    memmove_any(v978 + (i64)v972, (v958 + 12) + (i64)v966, v970);
+v1010:;
+    at(ptr, v4 + 112) = v978;
+    at(u64, v4 + 120) = v977;
+    at(u64, v4 + 128) = v971;
+    v1038 = v970; goto v968;
+v976:;
+    std_io_buffered_BufWriter_write_cold(v14, v4, (v958 + 12) + (i64)v966, v970);
+    u64 v1033 = at(u64, v14 + 8);
+    if (!((at(u8, v14) != 0) ? 1 : (v1033 == 0))) { v1038 = v1033; goto v968; }
+    at(u8, v4 + 144) = 1;
+v656:;
+    goto v325;
+v968:;
+    u64 v967 = v1038 + v966;
+    at(u64, v4 + 136) = at(u64, v4 + 136) + v1038;
+    if (v967 < 38u) { v966 = v967; goto v965; }
+    u8 v1043 = font_write_made_head_send_head_end_7cc9(v958, v959, v4);
+    v1307 = v1043; goto v1044;
+v399:;
+    memset(v12, 0, 1024u);
+    u8 *v1045 = at(ptr, v47 + 168);
+    u64 v1046 = at(u64, v47 + 176);
+    if (v1046 == 0) { v1076 = 0; goto v1048; }
+    if (at(u8, v1045) & 1) { v1086 = 0; goto v1052; }
+    if (v1046 < 64u) { v1076 = 0; goto v1048; }
+    v1056 = 0;
+v1055:;
+    if (v1056 == 0xffffffffffffffc0u) goto v1058;
+    v1063 = 0; v1065 = (u8x16){0};
+v1062:;
+    u8x16 v1066 = v1065 | ((-(at(u8x16_1, (v1045 + (i64)v1056) + (i64)v1063) & 1)));
+    u64 v1064 = v1063 + 16u;
+    if (!(v1064 == 64u)) { v1063 = v1064; v1065 = v1066; goto v1062; }
+    if (!(bits_u8x16(v1066) == 0)) { v1076 = v1056; goto v1048; }
+v1058:;
+    u64 v1057 = v1056 + 64u;
+    if ((v1046 - v1057) < 64u) v1076 = v1057; else { v1056 = v1057; goto v1055; }
+v1048:;
+    if (v1076 < v1046) v1079 = v1076; else { v1086 = v1046; goto v1052; }
+v1078:;
+    if (at(u8, v1045 + v1079) & 1) { v1086 = v1079; goto v1052; }
+    u64 v1080 = v1079 + 1;
+    if (v1080 == v1046) v1086 = v1046; else { v1079 = v1080; goto v1078; }
+v1052:;
+    u16 v1087 = (u16)v1086;
+    u16 v1090 = at(u16, at(ptr, v47 + 8) + 64);
+    at(u32, v11) = 0;
+    at(u8, v4 + 145) = 0;
+    v1092 = 0;
+v1091:;
+    u64 v1096 = (u64)4 - v1092;
+    memset(v10, 0, 96u);
+    u64 v1097 = at(u64, v4 + 128);
+    u64 v1098 = at(u64, v4 + 120);
+    if (!(v1096 < (v1097 - v1098))) goto v1102;
+    u64 v1103 = v1098 + v1096;
+    u8 *v1104 = at(ptr, v4 + 112);
+    if ((((u64)(v1104 + (i64)v1098)) - ((u64)(v11 + (i64)v1092))) < v1096) v1113 = 0; else goto v1111;
+v1110:;
+    at(u8, (v1104 + (i64)v1098) + v1113) = at(u8, (v11 + (i64)v1092) + v1113);
+    u64 v1114 = v1113 + 1;
+    if (v1114 == v1096) goto v1112;
+    v1113 = v1114; goto v1110;
+v1111:;
+    memmove_any(v1104 + (i64)v1098, v11 + (i64)v1092, v1096);
+v1112:;
+    at(ptr, v4 + 112) = v1104;
+    at(u64, v4 + 120) = v1103;
+    at(u64, v4 + 128) = v1097;
+    v1125 = v1096; goto v1094;
+v1102:;
+    std_io_buffered_BufWriter_write_cold(v10, v4, v11 + (i64)v1092, v1096);
+    u64 v1120 = at(u64, v10 + 8);
+    if (!((at(u8, v10) != 0) ? 1 : (v1120 == 0))) { v1125 = v1120; goto v1094; }
+    at(u8, v4 + 144) = 1;
+    v1222 = 1; goto v1131;
+v1094:;
+    u64 v1093 = v1125 + v1092;
+    at(u64, v4 + 136) = at(u64, v4 + 136) + v1125;
+    if (v1093 < 4) { v1092 = v1093; goto v1091; }
+    if (v1090 == 0) { v1222 = 0; goto v1131; }
+    v1133 = 0; v1136 = v1087; v1138 = 0;
+v1132:;
+    u16 v1141 = umin16((u16)(v1090 - v1138), 256u);
+    u16 v1139 = (u16)(v1141 + v1138);
+    u32_u16 v1142 = font_write_made_loca_gather_offsets(v47, v1138, v1139, v1133, v1136, v12);
+    u64 v1144 = (u64)((u16)((u32)v1141 << 2));
+    at(u8, v4 + 145) = 0;
+    v1146 = 0;
+v1145:;
+    u64 v1150 = v1144 - v1146;
+    memset(v9, 0, 96u);
+    u64 v1151 = at(u64, v4 + 128);
+    u64 v1152 = at(u64, v4 + 120);
+    if (!(v1150 < (v1151 - v1152))) goto v1156;
+    u64 v1157 = v1152 + v1150;
+    u8 *v1158 = at(ptr, v4 + 112);
+    u64 v1159 = (u64)v1158;
+    if (!((((u64)(v1158 + (i64)v1152)) - ((u64)(v12 + (i64)v1146))) < v1150)) goto v1166;
+    if (v1150 < 4) { v1203 = 0; goto v1168; }
+    if (((v1152 + v1159) - (v1146 + v13)) < 32u) { v1203 = 0; goto v1168; }
+    if (v1150 < 16u) { v1192 = 0; goto v1176; }
+    u64 v1178 = v1150 & 12u;
+    u64 v1179 = v1150 & 2032u;
+    v1181 = 0;
+v1180:;
+    at(u8x16_1, (v1158 + (i64)v1152) + v1181) = at(u8x16_1, (v12 + (i64)v1146) + v1181);
+    u64 v1182 = v1181 + 16u;
+    if (!(v1182 == v1179)) { v1181 = v1182; goto v1180; }
+    if (v1150 == v1179) goto v1189;
+    if (v1178 == 0) { v1203 = v1179; goto v1168; }
+    v1192 = v1179;
+v1176:;
+    u64 v1193 = v1150 & 2044u;
+    v1195 = v1192;
+v1194:;
+    at(u8x4_1, (v1158 + (i64)v1152) + v1195) = at(u8x4_1, (v12 + (i64)v1146) + v1195);
+    u64 v1196 = v1195 + 4;
+    if (!(v1196 == v1193)) { v1195 = v1196; goto v1194; }
+    if (v1150 == v1193) goto v1189;
+    v1203 = v1193;
+v1168:;
+    v1205 = v1203;
+v1204:;
+    at(u8, (v1158 + (i64)v1152) + v1205) = at(u8, (v12 + (i64)v1146) + v1205);
+    u64 v1206 = v1205 + 1;
+    if (v1206 == v1150) goto v1189;
+    v1205 = v1206; goto v1204;
+v1166:;
+    memmove_any(v1158 + (i64)v1152, v12 + (i64)v1146, v1150);
+v1189:;
+    at(ptr, v4 + 112) = v1158;
+    at(u64, v4 + 120) = v1157;
+    at(u64, v4 + 128) = v1151;
+    v1216 = v1150; goto v1211;
+v1156:;
+    std_io_buffered_BufWriter_write_cold(v9, v4, v12 + (i64)v1146, v1150);
+    if (at(u8, v9) == 0) v1216 = at(u64, v9 + 8); else goto v1215;
+v1211:;
+    if (v1216 == 0) goto v1215;
+    u64 v1147 = v1216 + v1146;
+    at(u64, v4 + 136) = at(u64, v4 + 136) + v1216;
+    if (v1147 < v1144) { v1146 = v1147; goto v1145; }
+    if (v1139 < v1090) { v1133 = v1142._0; v1136 = v1142._1; v1138 = v1139; goto v1132; }
+    v1222 = 0; goto v1131;
+v1215:;
+    at(u8, v4 + 144) = 1;
+    v1222 = 1;
+v1131:;
+    v1307 = v1222;
+v1044:;
+    if (v1307 & 1) goto v325;
+v1306:;
+    u32 v1314 = ((u32)0 - at(u32, v35 + (i64)(v389 * 12u) + 8)) & 3;
+    u64 v1315 = (u64)v1314;
+    at(u8, v4 + 145) = 0;
+    if (v1314 == 0) goto v391;
+    v1318 = 0;
+v1317:;
+    u64 v1322 = v1315 - v1318;
+    memset(v7, 0, 96u);
+    u64 v1323 = at(u64, v4 + 128);
+    u64 v1324 = at(u64, v4 + 120);
+    if (!(v1322 < (v1323 - v1324))) goto v1328;
+    u64 v1329 = v1324 + v1322;
+    u8 *v1330 = at(ptr, v4 + 112);
+    if (!((((u64)(v1330 + (i64)v1324)) - ((u64)((u8 *)table_18327a07 + (i64)v1318))) < v1322)) goto v1337;
+    memset_any(v1330 + (i64)v1324, 0, v1322);
+    goto v1338;
+v1337:;
+    memcpy_any(v1330 + (i64)v1324, (u8 *)table_18327a07 + (i64)v1318, v1322);
+v1338:;
+    at(ptr, v4 + 112) = v1330;
+    at(u64, v4 + 120) = v1329;
+    at(u64, v4 + 128) = v1323;
+    v1344 = v1322; goto v1339;
+v1328:;
+    std_io_buffered_BufWriter_write_cold(v7, v4, (u8 *)table_18327a07 + (i64)v1318, v1322);
+    if (at(u8, v7) == 0) v1344 = at(u64, v7 + 8); else goto v1343;
+v1339:;
+    if (v1344 == 0) goto v1343;
+    u64 v1319 = v1344 + v1318;
+    at(u64, v4 + 136) = at(u64, v4 + 136) + v1344;
+    if (v1319 < v1315) { v1318 = v1319; goto v1317; }
+v391:;
+    u64 v390 = v389 + 1;
+    if (!(v390 == 29u)) { v389 = v390; goto v388; }
+    v1353 = 0; v1354 = v162; v1355 = 0; goto v1351;
+v1343:;
+    at(u8, v4 + 144) = 1;
+v325:;
+    v1353 = 1; v1354 = 2; v1355 = at(u64, v4 + 136);
+v1351:;
+    u8 v1357 = at(u8, v47 + 24);
+    u8 *v1359 = at(ptr, v47 + 32);
+    u64 v1361 = at(u64, v47 + 48);
+    u8 v1363 = at(u8, v47 + 64);
+    u8 *v1365 = at(ptr, v47 + 72);
+    u64 v1367 = at(u64, v47 + 88);
+    u8 *v1369 = at(ptr, v47 + 168);
+    u64 v1371 = at(u64, v47 + 184);
+    memcpy(v6, v47 + 192, 160u);
+    divided_tables_all_tables_MadeTables_drop_2de7(v6);
+    if (v1371 == 0) goto v1374;
+    sys_rattle_dealloc(v1369);
+v1374:;
+    if ((v1357 != 1) ? 1 : (v1361 == 0)) goto v1379;
+    sys_rattle_dealloc(v1359);
+v1379:;
+    if ((v1363 != 1) ? 1 : (v1367 == 0)) goto v1384;
+    sys_rattle_dealloc(v1365);
+v1384:;
+    if (v105 ? 1 : (v103 == 0)) goto v1388;
+    sys_rattle_dealloc(v99);
+v1388:;
+    at(u64_1, v0) = v1353;
+    at(u64_1, v0 + 8) = v1354;
+    at(u64_1, v0 + 16) = v1355;
+    return;
+v116:;
+v117:;
+    if (v105 ? 1 : (v103 == 0)) goto v1392;
+    sys_rattle_dealloc(v99);
+v1392:;
     at(u64_1, v0) = 1;
     memset(v0 + 8, 0, 16u);
     return;
-v92:;
-    u8 v124 = at(u8, v44 + 16);
-    u8 *v126 = at(ptr, v44 + 24);
-    u64 v128 = at(u64, v44 + 40);
-    u8 v130 = at(u8, v44 + 56);
-    u8 *v132 = at(ptr, v44 + 64);
-    u64 v134 = at(u64, v44 + 80);
-    if (at(u64, v44 + 136) == 0) goto v138;
-    sys_rattle_dealloc(at(ptr, v44 + 120));
-v138:;
-    if ((v124 != 1) ? 1 : (v128 == 0)) goto v144;
-    sys_rattle_dealloc(v126);
-v144:;
-    if ((v130 != 1) ? 1 : (v134 == 0)) goto v149;
-    sys_rattle_dealloc(v132);
-v149:;
+v93:;
+    u8 v125 = at(u8, v46 + 16);
+    u8 *v127 = at(ptr, v46 + 24);
+    u64 v129 = at(u64, v46 + 40);
+    u8 v131 = at(u8, v46 + 56);
+    u8 *v133 = at(ptr, v46 + 64);
+    u64 v135 = at(u64, v46 + 80);
+    if (at(u64, v46 + 136) == 0) goto v139;
+    sys_rattle_dealloc(at(ptr, v46 + 120));
+v139:;
+    if ((v125 != 1) ? 1 : (v129 == 0)) goto v145;
+    sys_rattle_dealloc(v127);
+v145:;
+    if ((v131 != 1) ? 1 : (v135 == 0)) goto v150;
+    sys_rattle_dealloc(v133);
+v150:;
     at(u64_1, v0) = 1;
     memset(v0 + 8, 0, 16u);
     return;
-v58:;
 v59:;
+v60:;
     at(u64_1, v0) = 1;
     memset(v0 + 8, 0, 16u);
     return;
@@ -3454,8 +4520,8 @@ v59:;
 
 u8_u8 font_subset_cut_forms_belongs(u8 *v0, u8 *v1) {
     _Alignas(4) u8 v3[1], v14[16];
-    _Alignas(8) u8 v4[320], v5[328], v6[24], v7[320], v8[24], v9[16], v10[16], v11[48], v12[32], v13[56], v15[32];
-    u8 v16[39], *v213, *v228, *v214, *v244, *v247, *v249, *v250, v267, v280, v281;
+    _Alignas(8) u8 v4[160], v5[352], v6[360], v7[24], v8[24], v9[16], v10[16], v11[48], v12[32], v13[56], v15[32];
+    u8 v16[39], *v213, *v228, *v214, *v244, *v247, *v249, *v250, v297, v310, v311;
     u64 v77, v81, v99, v104, v114, v115, v149, v152, v158, v159, v210, v229, v211, v246, v251;
     u32 v84, v86, v97, v98, v102, v103;
     u16 v215;
@@ -3580,7 +4646,7 @@ v191:;
     u8 *v197 = at(ptr, v0 + 8);
     if (at(u8, v0) == 0) { v249 = v197; v250 = v3; v251 = 0; v252 = 1; goto v198; }
     at(ptr, v9) = v0;
-    at(ptr, v9 + 8) = v0 + 312;
+    at(ptr, v9 + 8) = v0 + 344;
     at(ptr, v8) = v3;
     memset(v8 + 8, 0, 16u);
     u16 v204 = at(u16, v197 + 64);
@@ -3595,9 +4661,9 @@ v225:;
     if (at(u64, v8 + 16) == 0) goto v237;
     sys_rattle_dealloc(at(ptr, v8));
 v237:;
-    if (at(u64, v15 + 16) == 0) { v280 = 0; v281 = 1; goto v248; }
+    if (at(u64, v15 + 16) == 0) { v310 = 0; v311 = 1; goto v248; }
     sys_rattle_dealloc(at(ptr, v15));
-    v280 = 0; v281 = 1; goto v248;
+    v310 = 0; v311 = 1; goto v248;
 v222:;
     at(u16, v228 + (v229 << 1)) = v215;
     u64 v232 = v229 + 1;
@@ -3612,32 +4678,50 @@ v206:;
 v198:;
     u8 *v253 = at(ptr_1, v249);
     u64 v255 = at(u64_1, v249 + 8);
-    memset(v5, 0, 328u);
-    at(u64, v6) = 1;
-    at(ptr, v6 + 8) = v250;
-    at(u64, v6 + 16) = v251;
-    font_subset_kind_source_CutOfKind_new_991b(v5, v1, 1, v15, v6);
-    u8 v258 = at(u8, v5);
-    if (!(v258 == 0)) { v267 = 0; goto v261; }
-    memcpy(v4, v5 + 8, 320u);
-    u8 v266 = (u8)(font_subset_forms_form_of_file(at(u8, v1), v4, v253, v255) != 0);
-    memcpy(v7, v4, 320u);
-    font_subset_kind_source_CutOfKind_drop_3cda(v7);
-    v267 = v266;
+    memset(v6, 0, 360u);
+    at(u64, v7) = 1;
+    at(ptr, v7 + 8) = v250;
+    at(u64, v7 + 16) = v251;
+    font_subset_kind_source_CutOfKind_new_991b(v6, v1, 1, v15, v7);
+    u8 v258 = at(u8, v6);
+    if (!(v258 == 0)) { v297 = 0; goto v261; }
+    memcpy(v5, v6 + 8, 352u);
+    u8 v266 = (u8)(font_subset_forms_form_of_file(at(u8, v1), v5, v253, v255) != 0);
+    u8 v268 = at(u8, v5 + 24);
+    u8 *v270 = at(ptr, v5 + 32);
+    u64 v272 = at(u64, v5 + 48);
+    u8 v274 = at(u8, v5 + 64);
+    u8 *v276 = at(ptr, v5 + 72);
+    u64 v278 = at(u64, v5 + 88);
+    u8 *v280 = at(ptr, v5 + 168);
+    u64 v282 = at(u64, v5 + 184);
+    memcpy(v4, v5 + 192, 160u);
+    divided_tables_all_tables_MadeTables_drop_2de7(v4);
+    if (v282 == 0) goto v285;
+    sys_rattle_dealloc(v280);
+v285:;
+    if ((v268 != 1) ? 1 : (v272 == 0)) goto v290;
+    sys_rattle_dealloc(v270);
+v290:;
+    if ((v274 != 1) ? 1 : (v278 == 0)) goto v295;
+    sys_rattle_dealloc(v276);
+v295:;
+    v297 = v266;
 v261:;
-    if (v252) goto v268;
+    if (v252) goto v298;
     sys_rattle_dealloc(v250);
-v268:;
-    if (at(u64, v15 + 16) == 0) { v280 = v267; v281 = v258; goto v248; }
+v298:;
+    if (at(u64, v15 + 16) == 0) { v310 = v297; v311 = v258; goto v248; }
     sys_rattle_dealloc(at(ptr, v15));
-    v280 = v267; v281 = v258; goto v248;
+    v310 = v297; v311 = v258; goto v248;
 v23:;
-    v280 = 0; v281 = 1;
+    v310 = 0; v311 = 1;
 v248:;
-    return (u8_u8){v281, v280};
+    return (u8_u8){v311, v310};
 }
 
 void font_subset_font_of_kind_FontOfKind_drop_b0ec(u8 *v0) {
+    u8 v3 = at(u8, v0 + 16);
     u8 v5 = at(u8, v0 + 56);
     u8 *v7 = at(ptr_1, v0 + 64);
     u64 v9 = at(u64_1, v0 + 80);
@@ -3650,20 +4734,38 @@ void font_subset_font_of_kind_FontOfKind_drop_b0ec(u8 *v0) {
     u8 v23 = at(u8, v0 + 224);
     u8 *v25 = at(ptr_1, v0 + 232);
     u64 v27 = at(u64_1, v0 + 248);
-    u8 *v29 = at(ptr_1, v0 + 288);
-    if (!(at(u8, v0 + 16) == 1)) return;
-    if ((at(u8, v0 + 280) != 1) ? 1 : (at(u64_1, v0 + 304) == 0)) goto v40;
-    sys_rattle_dealloc(v29);
-v40:;
-    if ((v23 != 1) ? 1 : (v27 == 0)) goto v45;
-    sys_rattle_dealloc(v25);
-v45:;
-    if ((v17 != 1) ? 1 : (v21 == 0)) goto v50;
-    sys_rattle_dealloc(v19);
+    u8 v29 = at(u8, v0 + 280);
+    u8 *v31 = at(ptr_1, v0 + 288);
+    u64 v33 = at(u64_1, v0 + 304);
+    u8 v35 = at(u8, v0 + 312);
+    u8 *v37 = at(ptr_1, v0 + 320);
+    u64 v39 = at(u64_1, v0 + 336);
+    u8 *v43 = at(ptr_1, v0 + 440);
+    u8 *v45 = at(ptr_1, v0 + 464);
+    u64 v47 = at(u64_1, v0 + 480);
+    if (!(at(u8, v0 + 424) == 1)) goto v50;
+    if (at(u64_1, v0 + 456) == 0) goto v54;
+    sys_rattle_dealloc(v43);
+v54:;
+    if (v47 == 0) goto v50;
+    sys_rattle_dealloc(v45);
 v50:;
-    if ((v11 != 1) ? 1 : (v15 == 0)) goto v55;
+    if ((v35 != 1) ? 1 : (v39 == 0)) goto v61;
+    sys_rattle_dealloc(v37);
+v61:;
+    if (!(v3 == 1)) return;
+    if ((v29 != 1) ? 1 : (v33 == 0)) goto v69;
+    sys_rattle_dealloc(v31);
+v69:;
+    if ((v23 != 1) ? 1 : (v27 == 0)) goto v74;
+    sys_rattle_dealloc(v25);
+v74:;
+    if ((v17 != 1) ? 1 : (v21 == 0)) goto v79;
+    sys_rattle_dealloc(v19);
+v79:;
+    if ((v11 != 1) ? 1 : (v15 == 0)) goto v84;
     sys_rattle_dealloc(v13);
-v55:;
+v84:;
     if ((v5 != 1) ? 1 : (v9 == 0)) return;
     sys_rattle_dealloc(v7);
     return;
@@ -3671,55 +4773,60 @@ v55:;
 
 void font_subset_font_of_kind_FontOfKind_further_6e0a(u8 *v0, u8 *v1, u64 v2) {
     _Alignas(4) u8 v4[20], v5[32];
-    u64 v11, v41, v42, v43, v47, v48, v49, v73, v92, v124, v126;
-    u8 *v72, *v125;
+    u64 v22, v52, v53, v54, v57, v58, v83, v102, v136;
+    u8 v59, *v82, v134, *v135;
+    if (!(v2 == 29u)) goto v8;
+    u8 v10 = at(u8, v1 + 312);
+    if (!(v10 == 1)) { v134 = v10; v135 = (u8 *)0; v136 = 0; goto v13; }
+    v134 = 1; v135 = at(ptr, v1 + 320); v136 = at(u64, v1 + 328); goto v13;
+v8:;
     switch (at(u8, v1)) {
-    case 0: case 1: v124 = 0; v125 = (u8 *)0; v126 = 0; goto v8;
-    case 2: v11 = 21u; goto v9;
-    case 3: goto v10;
+    case 0: case 1: v134 = 0; v135 = (u8 *)0; v136 = 0; goto v13;
+    case 2: v22 = 21u; goto v20;
+    case 3: goto v21;
     default: __builtin_trap();
     }
-v10:;
-    v11 = 29u;
-v9:;
-    if (!(v11 > v2)) { v124 = 0; v125 = (u8 *)0; v126 = 0; goto v8; }
-    if (!(at(u8, v1 + 16) == 1)) goto v18;
-    switch (v2) {
-    case 16u: goto v20;
-    case 17u: goto v21;
-    case 18u: goto v22;
-    case 19u: goto v23;
-    default: goto v19;
-    }
-v19:;
-    if (at(u8, v1 + 280) == 1) { v47 = 288u; v48 = 296u; v49 = 1; goto v27; }
-    v41 = 256u; v42 = 264u; v43 = 272u; goto v28;
-v20:;
-    if (at(u8, v1 + 56) == 1) { v47 = 64u; v48 = 72u; v49 = 1; goto v27; }
-    v41 = 32u; v42 = 40u; v43 = 48u; goto v28;
 v21:;
-    if (at(u8, v1 + 112) == 1) { v47 = 120u; v48 = 128u; v49 = 1; goto v27; }
-    v41 = 88u; v42 = 96u; v43 = 104u; goto v28;
-v22:;
-    if (at(u8, v1 + 168) == 1) { v47 = 176u; v48 = 184u; v49 = 1; goto v27; }
-    v41 = 144u; v42 = 152u; v43 = 160u; goto v28;
-v23:;
-    if (at(u8, v1 + 224) == 1) { v47 = 232u; v48 = 240u; v49 = 1; goto v27; }
-    v41 = 200u; v42 = 208u; v43 = 216u;
-v28:;
-    v47 = v42; v48 = v43; v49 = (u64)at(u8, v1 + (i64)v41);
-v27:;
-    v124 = v49; v125 = at(ptr_1, v1 + (i64)v47); v126 = at(u64_1, v1 + (i64)v48); goto v8;
-v18:;
-    u8 *v56 = at(ptr_1, at(ptr, v1 + 8));
-    if (!(v2 < 21u)) goto v59;
+    v22 = 29u;
+v20:;
+    if (!(v22 > v2)) { v134 = 0; v135 = (u8 *)0; v136 = 0; goto v13; }
+    if (!(at(u8, v1 + 16) == 1)) goto v29;
+    switch (v2) {
+    case 16u: goto v31;
+    case 17u: goto v32;
+    case 18u: goto v33;
+    case 19u: goto v34;
+    default: goto v30;
+    }
+v30:;
+    if (at(u8, v1 + 280) == 1) { v57 = 288u; v58 = 296u; v59 = 1; goto v38; }
+    v52 = 256u; v53 = 264u; v54 = 272u; goto v39;
+v31:;
+    if (at(u8, v1 + 56) == 1) { v57 = 64u; v58 = 72u; v59 = 1; goto v38; }
+    v52 = 32u; v53 = 40u; v54 = 48u; goto v39;
+v32:;
+    if (at(u8, v1 + 112) == 1) { v57 = 120u; v58 = 128u; v59 = 1; goto v38; }
+    v52 = 88u; v53 = 96u; v54 = 104u; goto v39;
+v33:;
+    if (at(u8, v1 + 168) == 1) { v57 = 176u; v58 = 184u; v59 = 1; goto v38; }
+    v52 = 144u; v53 = 152u; v54 = 160u; goto v39;
+v34:;
+    if (at(u8, v1 + 224) == 1) { v57 = 232u; v58 = 240u; v59 = 1; goto v38; }
+    v52 = 200u; v53 = 208u; v54 = 216u;
+v39:;
+    v57 = v53; v58 = v54; v59 = at(u8, v1 + (i64)v52);
+v38:;
+    v134 = v59; v135 = at(ptr_1, v1 + (i64)v57); v136 = at(u64_1, v1 + (i64)v58); goto v13;
+v29:;
+    u8 *v66 = at(ptr_1, at(ptr, v1 + 8));
+    if (!(v2 < 21u)) goto v69;
     at(u32, v4) = 1163084098u;
     at(u32, v4 + 4) = 1178944583u;
     at(u32, v4 + 8) = 1397706823u;
     at(u32, v4 + 12) = 1112888135u;
     at(u32, v4 + 16) = 1852990827u;
-    v72 = v4; v73 = 0xffffffffffffffc0u; goto v64;
-v59:;
+    v82 = v4; v83 = 0xffffffffffffffc0u; goto v74;
+v69:;
     at(u32, v5) = 1380013640u;
     at(u32, v5 + 4) = 1380013645u;
     at(u32, v5 + 8) = 1413567571u;
@@ -3728,57 +4835,750 @@ v59:;
     at(u32, v5 + 20) = 1918989923u;
     at(u32, v5 + 24) = 1918989926u;
     at(u32, v5 + 28) = 1918989927u;
-    v72 = v5; v73 = 0xffffffffffffffacu;
-v64:;
-    u32 v77 = at(u32, (v72 + (i64)(v2 << 2)) + (i64)v73);
-    u16 v79 = at(u16_1, v56 + 4);
-    u64 v81 = (u64)bswap16(v79);
-    if (v79 == 0) { v124 = 0; v125 = (u8 *)0; v126 = 0; goto v8; }
-    u8 v84 = (u8)v77;
-    u8 v86 = (u8)(v77 >> 16u);
-    u8 v88 = (u8)(v77 >> 8);
-    v92 = 0;
-v89:;
-    u64 v94 = v92 << 4;
-    if (!((((at(u8, v56 + (i64)v94 + 12) == v84) ? (at(u8, v56 + (i64)v94 + 13) == v88) : 0) ? (at(u8, v56 + (i64)v94 + 14) == v86) : 0) ? (((((u32)at(u8, v56 + (i64)v94 + 15)) << 24u) ^ v77) < 16777216u) : 0)) goto v90;
-    v124 = 1; v125 = v56 + (i64)((u64)bswap32(at(u32_1, v56 + (i64)v94 + 20))); v126 = (u64)bswap32(at(u32_1, v56 + (i64)v94 + 24)); goto v8;
-v90:;
-    u64 v91 = v92 + 1;
-    if (v91 == v81) { v124 = 0; v125 = (u8 *)0; v126 = 0; } else { v92 = v91; goto v89; }
-v8:;
-    at(u64_1, v0) = v124;
-    at(ptr_1, v0 + 8) = v125;
-    at(u64_1, v0 + 16) = v126;
+    v82 = v5; v83 = 0xffffffffffffffacu;
+v74:;
+    u32 v87 = at(u32, (v82 + (i64)(v2 << 2)) + (i64)v83);
+    u16 v89 = at(u16_1, v66 + 4);
+    u64 v91 = (u64)bswap16(v89);
+    if (v89 == 0) { v134 = 0; v135 = (u8 *)0; v136 = 0; goto v13; }
+    u8 v94 = (u8)v87;
+    u8 v96 = (u8)(v87 >> 16u);
+    u8 v98 = (u8)(v87 >> 8);
+    v102 = 0;
+v99:;
+    u64 v104 = v102 << 4;
+    if (!((((at(u8, v66 + (i64)v104 + 12) == v94) ? (at(u8, v66 + (i64)v104 + 13) == v98) : 0) ? (at(u8, v66 + (i64)v104 + 14) == v96) : 0) ? (((((u32)at(u8, v66 + (i64)v104 + 15)) << 24u) ^ v87) < 16777216u) : 0)) goto v100;
+    v134 = 1; v135 = v66 + (i64)((u64)bswap32(at(u32_1, v66 + (i64)v104 + 20))); v136 = (u64)bswap32(at(u32_1, v66 + (i64)v104 + 24)); goto v13;
+v100:;
+    u64 v101 = v102 + 1;
+    if (v101 == v91) { v134 = 0; v135 = (u8 *)0; v136 = 0; } else { v102 = v101; goto v99; }
+v13:;
+    at(u64_1, v0) = (u64)v134;
+    at(ptr_1, v0 + 8) = v135;
+    at(u64_1, v0 + 16) = v136;
     return;
 }
 
 void font_subset_font_of_kind_FontOfKind_open_25ca(u8 *v0, u8 v1, u8 *v2) {
-    _Alignas(8) u8 v4[16], v5[16], v6[16], v7[16], v8[16], v9[24], v10[16], v11[16], v12[16], v13[16], v14[16], v15[24], v22[64], v23[64], v24[64], v25[64], v26[64], v27[16], v28[16], v29[16], v30[16], v31[16], v32[24], v39[16], v40[16], v41[16], v42[16], v43[16], v44[24], v47[16], v48[16], v49[16], v50[16], v51[16], v52[24], v53[16], v54[16], v55[16], v56[16], v57[16], v58[24], v59[312], v60[16], v61[16], v62[16], v63[16], v64[16], v65[24], v66[16], v67[16], v68[16], v69[16], v70[16], v71[24], v72[168], v73[288], v74[160], v75[312], v76[312], v77[168], v78[288], v79[160], v80[160];
-    u8 v16[16], v17[16], v18[16], v19[16], v20[16], v21[24], v33[16], v34[16], v35[16], v36[16], v37[16], v38[24], v45[6], v46[6], v108, v109, *v250, *v253, *v258, *v263, *v268, *v275, *v278, *v283, *v288, *v293, *v301, *v304, *v309, *v314, *v319, *v327, *v330, *v335, *v340, *v345, *v352, *v355, *v360, *v365, *v370, v381, v382, *v386, *v389, *v394, *v399, *v404, *v414, *v417, *v422, *v427, *v432, v439, v486, v487, v494, v495;
-    u32 v110, v380, v383, v413, v438, v484, v485, v488, v492, v493, v496;
-    flag v249, v325, v379;
-    u64 v251, v252, v254, v255, v256, v257, v259, v260, v261, v262, v264, v265, v266, v267, v269, v270, v271, v272, v276, v277, v279, v280, v281, v282, v284, v285, v286, v287, v289, v290, v291, v292, v294, v295, v296, v297, v302, v303, v305, v306, v307, v308, v310, v311, v312, v313, v315, v316, v317, v318, v320, v321, v322, v323, v324, v326, v328, v329, v331, v332, v333, v334, v336, v337, v338, v339, v341, v342, v343, v344, v346, v347, v348, v349, v353, v354, v356, v357, v358, v359, v361, v362, v363, v364, v366, v367, v368, v369, v371, v372, v373, v374, v375, v384, v385, v387, v388, v390, v391, v392, v393, v395, v396, v397, v398, v400, v401, v402, v403, v405, v406, v407, v408, v415, v416, v418, v419, v420, v421, v423, v424, v425, v426, v428, v429, v430, v431, v433, v434, v435, v436, v437, v440, v489, v490, v491, v497, v498, v499;
-    memset(v78, 0, 288u);
-    memset(v79, 0, 160u);
-    memset(v80, 0, 160u);
-    if (!(v1 < 2)) goto v83;
-    at(u64, v76) = 0;
-    memset(v77, 0, 168u);
-    u64 v84 = (u64)v2;
-    at(u8, v76) = v1;
-    at(u64, v76 + 8) = v84;
-    memset(v76 + 16, 0, 296u);
-    divided_tables_all_tables_OpenTables_open(v77, v76);
-    if (!(at(u8, v77) == 1)) goto v90;
-    memcpy(v80, v77 + 8, 160u);
-    memset(v78, 0, 288u);
-    memcpy(v79, v80, 160u);
-    v492 = 0; v493 = 0; v494 = v1; v495 = 0; v496 = 0; v497 = v84; v498 = v84 & 0xffffffff00000000u; v499 = 0; goto v93;
-v90:;
-    __builtin_trap();
-    __builtin_trap();
-v83:;
-    memset(v59, 0, 312u);
+    _Alignas(8) u8 v4[1], v5[24], v6[24], v8[24], v9[88], v14[24], v15[240], v16[72], v24[24], v25[88], v27[24], v28[32], v30[56], v31[16], v32[16], v33[16], v34[16], v35[16], v36[24], v43[64], v44[64], v45[64], v46[64], v47[64], v48[16], v49[16], v50[16], v51[16], v52[16], v53[24], v60[16], v61[16], v62[16], v63[16], v64[16], v65[24], v68[16], v69[16], v70[16], v71[16], v72[16], v73[24], v74[16], v75[16], v76[16], v77[16], v78[16], v79[24], v80[16], v81[16], v82[16], v83[16], v84[16], v85[24], v87[288], v88[344], v96[16], v97[16], v98[16], v99[16], v100[16], v101[24], v102[24], v103[232], v107[576];
+    u8 v7[31], v11[31], v29[31], v37[16], v38[16], v39[16], v40[16], v41[16], v42[24], v54[16], v55[16], v56[16], v57[16], v58[16], v59[24], v66[6], v67[6], v86[31], v134, v135, *v277, *v280, *v285, *v290, *v295, *v302, *v305, *v310, *v315, *v320, *v328, *v331, *v336, *v341, *v346, v351, v353, *v354, *v357, *v362, *v367, *v372, *v379, *v382, *v387, *v392, *v397, v402, *v444, *v494, *v530, *v495, v603, v604, *v608, *v611, *v616, *v621, *v626, *v639, *v642, *v647, *v652, *v657, *v761, *v785, *v762, *v825, *v826, *v806, *v809, *v865, *v873, v922, v923, v928, v929;
+    _Alignas(4) u8 v10[16], v17[16], v18[16], v19[16], v20[16], v21[16], v22[24], v23[24], v26[16], v89[16], v90[16], v91[16], v92[16], v93[16], v94[24], v95[24], v104[564], v105[564], v106[564];
+    _Alignas(2) u8 v12[6], v13[6];
+    u32 v136, v602, v637, v663, v920, v921, v925, v926, v927, v931;
+    flag v276, v352, v558, v601;
+    u64 v278, v279, v281, v282, v283, v284, v286, v287, v288, v289, v291, v292, v293, v294, v296, v297, v298, v299, v303, v304, v306, v307, v308, v309, v311, v312, v313, v314, v316, v317, v318, v319, v321, v322, v323, v324, v329, v330, v332, v333, v334, v335, v337, v338, v339, v340, v342, v343, v344, v345, v347, v348, v349, v350, v355, v356, v358, v359, v360, v361, v363, v364, v365, v366, v368, v369, v370, v371, v373, v374, v375, v376, v380, v381, v383, v384, v385, v386, v388, v389, v390, v391, v393, v394, v395, v396, v398, v399, v400, v401, v415, v445, v497, v531, v498, v605, v606, v607, v609, v610, v612, v613, v614, v615, v617, v618, v619, v620, v622, v623, v624, v625, v627, v628, v629, v630, v631, v638, v640, v641, v643, v644, v645, v646, v648, v649, v650, v651, v653, v654, v655, v656, v658, v659, v660, v661, v662, v764, v786, v765, v828, v830, v854, v805, v808, v863, v864, v874, v875, v876, v924, v930;
+    u16 v513, v518, v871, v872;
+    memset(v106, 0, 564u);
+    memset(v107, 0, 576u);
+    if (!(v1 < 2)) goto v110;
+    font_subset_font_of_kind_FontOfKind_plain(v107, v1, v2);
+    u8 v111 = at(u8, v107);
+    u8 v113 = at(u8, v107 + 1);
+    u64 v115 = load48(v107 + 2);
+    u32 v117 = at(u32, v107 + 8);
+    memcpy(v106, v107 + 12, 564u);
+    v926 = 0; v927 = 0; v928 = v111; v929 = v113; v930 = v115; v931 = v117; goto v119;
+v110:;
+    memset(v88, 0, 344u);
+    memset(v89, 0, 16u);
+    memset(v90, 0, 16u);
+    memset(v91, 0, 16u);
+    memset(v92, 0, 16u);
+    memset(v93, 0, 16u);
+    memset(v94, 0, 24u);
+    memset(v95, 0, 24u);
+    memset(v96, 0, 16u);
+    memset(v97, 0, 16u);
+    memset(v98, 0, 16u);
+    memset(v99, 0, 16u);
+    memset(v100, 0, 16u);
+    memset(v101, 0, 24u);
+    memset(v102, 0, 24u);
+    memset(v103, 0, 232u);
+    memset(v104, 0, 564u);
+    memset(v105, 0, 564u);
+    memset(v68, 0, 16u);
+    memset(v69, 0, 16u);
+    memset(v70, 0, 16u);
+    memset(v71, 0, 16u);
+    memset(v72, 0, 16u);
+    memset(v73, 0, 24u);
+    memset(v74, 0, 16u);
+    memset(v75, 0, 16u);
+    memset(v76, 0, 16u);
+    memset(v77, 0, 16u);
+    memset(v78, 0, 16u);
+    memset(v79, 0, 24u);
+    memset(v80, 0, 16u);
+    memset(v81, 0, 16u);
+    memset(v82, 0, 16u);
+    memset(v83, 0, 16u);
+    memset(v84, 0, 16u);
+    memset(v85, 0, 24u);
+    memset(v86, 0, 31u);
+    memset(v87, 0, 288u);
+    if (!(v1 == 3)) goto v122;
+    memset(v66, 0, 6);
+    sfnt_bytes_directory_Directory_check_tags(v66, v2, (u8 *)text_BASEGDEFGPOSGSUBHVARMVAR, 13u);
+    v134 = at(u8, v66); v135 = at(u8, v66 + 1); v136 = at(u32_1, v66 + 2); goto v128;
+v122:;
+    memset(v67, 0, 6);
+    sfnt_bytes_directory_Directory_check_tags(v67, v2, (u8 *)text_BASEGDEFGPOSGSUBkern, 5);
+    v134 = at(u8, v67); v135 = at(u8, v67 + 1); v136 = at(u32_1, v67 + 2);
+v128:;
+    if (!(v134 == 1)) goto v139;
+    memset(v96, 0, 16u);
+    memset(v97, 0, 16u);
+    memset(v98, 0, 16u);
+    memset(v99, 0, 16u);
+    memset(v100, 0, 16u);
+    memset(v101, 0, 24u);
+    memset(v102, 0, 24u);
+    v601 = 0; v602 = 1; v603 = 0; v604 = v135; v605 = (u64)v136; v606 = 0; v607 = 0; v608 = (u8 *)0; v609 = 0; v610 = 0; v611 = (u8 *)0; v612 = 0; v613 = 0; v614 = 0; v615 = 0; v616 = (u8 *)0; v617 = 0; v618 = 0; v619 = 0; v620 = 0; v621 = (u8 *)0; v622 = 0; v623 = 0; v624 = 0; v625 = 0; v626 = (u8 *)0; v627 = 0; v628 = 0; v629 = 0; v630 = 0; v631 = 0; goto v141;
+v139:;
+    memset(v48, 0, 16u);
+    memset(v49, 0, 16u);
+    memset(v50, 0, 16u);
+    memset(v51, 0, 16u);
+    memset(v52, 0, 16u);
+    memset(v53, 0, 24u);
+    memset(v54, 0, 16u);
+    memset(v55, 0, 16u);
+    memset(v56, 0, 16u);
+    memset(v57, 0, 16u);
+    memset(v58, 0, 16u);
+    memset(v59, 0, 24u);
+    if (!(v1 == 2)) { v328 = (u8 *)0; v329 = 0; v330 = 0; v331 = (u8 *)0; v332 = 0; v333 = 0; v334 = 0; v335 = 0; v336 = (u8 *)0; v337 = 0; v338 = 0; v339 = 0; v340 = 0; v341 = (u8 *)0; v342 = 0; v343 = 0; v344 = 0; v345 = 0; v346 = (u8 *)0; v347 = 0; v348 = 0; v349 = 0; v350 = 0; v351 = 0; goto v144; }
+    memset(v43, 0, 64u);
+    memset(v44, 0, 64u);
+    memset(v45, 0, 64u);
+    memset(v46, 0, 64u);
+    memset(v47, 0, 64u);
+    font_subset_further_tables_FixedTable_of_1948(v43, v2, 16u);
+    u8 v147 = at(u8, v43 + 32);
+    if (!(at(u8, v43) == 0)) goto v150;
+    u8 *v155 = at(ptr, v43 + 40);
+    u64 v157 = at(u64, v43 + 48);
+    u64 v159 = at(u64, v43 + 56);
+    u64 v160 = (u64)at(u8, v43 + 8);
+    u64 v161 = (u64)v147;
+    font_subset_further_tables_FixedTable_of_1948(v44, v2, 17u);
+    u8 v164 = at(u8, v44 + 32);
+    if (!(at(u8, v44) == 0)) goto v167;
+    u8 *v173 = at(ptr, v44 + 40);
+    u64 v175 = at(u64, v44 + 48);
+    u64 v177 = at(u64, v44 + 56);
+    u64 v178 = (u64)at(u8, v44 + 8);
+    u64 v179 = (u64)v164;
+    font_subset_further_tables_FixedTable_of_1948(v45, v2, 18u);
+    u8 v182 = at(u8, v45 + 32);
+    if (!(at(u8, v45) == 0)) goto v185;
+    u8 *v195 = at(ptr, v45 + 40);
+    u64 v197 = at(u64, v45 + 48);
+    u64 v199 = at(u64, v45 + 56);
+    u64 v200 = (u64)at(u8, v45 + 8);
+    u64 v201 = (u64)v182;
+    font_subset_further_tables_FixedTable_of_1948(v46, v2, 19u);
+    u8 v204 = at(u8, v46 + 8);
+    u8 v206 = at(u8, v46 + 32);
+    if (!(at(u8, v46) == 0)) goto v209;
+    u8 *v221 = at(ptr, v46 + 40);
+    u64 v223 = at(u64, v46 + 48);
+    u64 v225 = at(u64, v46 + 56);
+    font_subset_further_tables_FixedTable_of_1948(v47, v2, 20u);
+    if (!(at(u8, v47) == 0)) goto v229;
+    u64 v254 = (u64)at(u8, v47 + 8);
+    u64 v255 = (u64)at(u8, v47 + 32);
+    memcpy(v60, v43 + 16, 16u);
+    memcpy(v61, v44 + 16, 16u);
+    memcpy(v62, v45 + 16, 16u);
+    memcpy(v63, v46 + 16, 16u);
+    memcpy(v64, v47 + 16, 16u);
+    memcpy(v65, v47 + 40, 24u);
+    v276 = 1; v277 = v2; v278 = v160; v279 = v161; v280 = v155; v281 = v157; v282 = v159; v283 = v178; v284 = v179; v285 = v173; v286 = v175; v287 = v177; v288 = v200; v289 = v201; v290 = v195; v291 = v197; v292 = v199; v293 = (u64)v204; v294 = (u64)v206; v295 = v221; v296 = v223; v297 = v225; v298 = v254; v299 = v255; goto v168;
+v229:;
+    if ((v206 != 1) ? 1 : (v225 == 0)) goto v259;
+    sys_rattle_dealloc(v221);
+v259:;
+    if ((v182 != 1) ? 1 : (v199 == 0)) goto v264;
+    sys_rattle_dealloc(v195);
+v264:;
+    if ((v164 != 1) ? 1 : (v177 == 0)) goto v269;
+    sys_rattle_dealloc(v173);
+v269:;
+    if ((v147 != 1) ? 1 : (v159 == 0)) goto v274;
+    sys_rattle_dealloc(v155);
+v274:;
+    memset(v60, 0, 16u);
+    memset(v61, 0, 16u);
+    memset(v62, 0, 16u);
+    memset(v63, 0, 16u);
+    memset(v64, 0, 16u);
+    memset(v65, 0, 24u);
+    v276 = 0; v277 = (u8 *)0; v278 = 0; v279 = 0; v280 = (u8 *)0; v281 = 0; v282 = 0; v283 = 0; v284 = 0; v285 = (u8 *)0; v286 = 0; v287 = 0; v288 = 0; v289 = 0; v290 = (u8 *)0; v291 = 0; v292 = 0; v293 = 0; v294 = 0; v295 = (u8 *)0; v296 = 0; v297 = 0; v298 = 0; v299 = 0; goto v168;
+v209:;
+    if ((v182 != 1) ? 1 : (v199 == 0)) goto v233;
+    sys_rattle_dealloc(v195);
+v233:;
+    if ((v164 != 1) ? 1 : (v177 == 0)) goto v238;
+    sys_rattle_dealloc(v173);
+v238:;
+    if ((v147 != 1) ? 1 : (v159 == 0)) goto v243;
+    sys_rattle_dealloc(v155);
+v243:;
+    memset(v60, 0, 16u);
+    memset(v61, 0, 16u);
+    memset(v62, 0, 16u);
+    memset(v63, 0, 16u);
+    memset(v64, 0, 16u);
+    memset(v65, 0, 24u);
+    v276 = 0; v277 = (u8 *)0; v278 = 0; v279 = 0; v280 = (u8 *)0; v281 = 0; v282 = 0; v283 = 0; v284 = 0; v285 = (u8 *)0; v286 = 0; v287 = 0; v288 = 0; v289 = 0; v290 = (u8 *)0; v291 = 0; v292 = 0; v293 = 0; v294 = 0; v295 = (u8 *)0; v296 = 0; v297 = 0; v298 = 0; v299 = 0; goto v168;
+v185:;
+    if ((v164 != 1) ? 1 : (v177 == 0)) goto v213;
+    sys_rattle_dealloc(v173);
+v213:;
+    if ((v147 != 1) ? 1 : (v159 == 0)) goto v218;
+    sys_rattle_dealloc(v155);
+v218:;
+    memset(v60, 0, 16u);
+    memset(v61, 0, 16u);
+    memset(v62, 0, 16u);
+    memset(v63, 0, 16u);
+    memset(v64, 0, 16u);
+    memset(v65, 0, 24u);
+    v276 = 0; v277 = (u8 *)0; v278 = 0; v279 = 0; v280 = (u8 *)0; v281 = 0; v282 = 0; v283 = 0; v284 = 0; v285 = (u8 *)0; v286 = 0; v287 = 0; v288 = 0; v289 = 0; v290 = (u8 *)0; v291 = 0; v292 = 0; v293 = 0; v294 = 0; v295 = (u8 *)0; v296 = 0; v297 = 0; v298 = 0; v299 = 0; goto v168;
+v167:;
+    if ((v147 != 1) ? 1 : (v159 == 0)) goto v189;
+    sys_rattle_dealloc(v155);
+v189:;
+    memset(v60, 0, 16u);
+    memset(v61, 0, 16u);
+    memset(v62, 0, 16u);
+    memset(v63, 0, 16u);
+    memset(v64, 0, 16u);
+    memset(v65, 0, 24u);
+    v276 = 0; v277 = (u8 *)0; v278 = 0; v279 = 0; v280 = (u8 *)0; v281 = 0; v282 = 0; v283 = 0; v284 = 0; v285 = (u8 *)0; v286 = 0; v287 = 0; v288 = 0; v289 = 0; v290 = (u8 *)0; v291 = 0; v292 = 0; v293 = 0; v294 = 0; v295 = (u8 *)0; v296 = 0; v297 = 0; v298 = 0; v299 = 0; goto v168;
+v150:;
+    memset(v60, 0, 16u);
+    memset(v61, 0, 16u);
+    memset(v62, 0, 16u);
+    memset(v63, 0, 16u);
+    memset(v64, 0, 16u);
+    memset(v65, 0, 24u);
+    v276 = 0; v277 = (u8 *)0; v278 = 0; v279 = 0; v280 = (u8 *)0; v281 = 0; v282 = 0; v283 = 0; v284 = 0; v285 = (u8 *)0; v286 = 0; v287 = 0; v288 = 0; v289 = 0; v290 = (u8 *)0; v291 = 0; v292 = 0; v293 = 0; v294 = 0; v295 = (u8 *)0; v296 = 0; v297 = 0; v298 = 0; v299 = 0;
+v168:;
+    memset(v37, 0, 16u);
+    memset(v38, 0, 16u);
+    memset(v39, 0, 16u);
+    memset(v40, 0, 16u);
+    memset(v41, 0, 16u);
+    memset(v42, 0, 24u);
+    if (!v276) { v302 = (u8 *)0; v303 = 0; v304 = 0; v305 = (u8 *)0; v306 = 0; v307 = 0; v308 = 0; v309 = 0; v310 = (u8 *)0; v311 = 0; v312 = 0; v313 = 0; v314 = 0; v315 = (u8 *)0; v316 = 0; v317 = 0; v318 = 0; v319 = 0; v320 = (u8 *)0; v321 = 0; v322 = 0; v323 = 0; v324 = 0; goto v301; }
+    memcpy(v37, v60, 16u);
+    memcpy(v38, v61, 16u);
+    memcpy(v39, v62, 16u);
+    memcpy(v40, v63, 16u);
+    memcpy(v41, v64, 16u);
+    memcpy(v42, v65, 24u);
+    v302 = v277; v303 = v278; v304 = v279; v305 = v280; v306 = v281; v307 = v282; v308 = v283; v309 = v284; v310 = v285; v311 = v286; v312 = v287; v313 = v288; v314 = v289; v315 = v290; v316 = v291; v317 = v292; v318 = v293; v319 = v294; v320 = v295; v321 = v296; v322 = v297; v323 = v298; v324 = v299;
+v301:;
+    memcpy(v54, v37, 16u);
+    memcpy(v55, v38, 16u);
+    memcpy(v56, v39, 16u);
+    memcpy(v57, v40, 16u);
+    memcpy(v58, v41, 16u);
+    memcpy(v59, v42, 24u);
+    if (!v276) goto v326;
+    memcpy(v48, v54, 16u);
+    memcpy(v49, v55, 16u);
+    memcpy(v50, v56, 16u);
+    memcpy(v51, v57, 16u);
+    memcpy(v52, v58, 16u);
+    memcpy(v53, v59, 24u);
+    v328 = v302; v329 = v303; v330 = v304; v331 = v305; v332 = v306; v333 = v307; v334 = v308; v335 = v309; v336 = v310; v337 = v311; v338 = v312; v339 = v313; v340 = v314; v341 = v315; v342 = v316; v343 = v317; v344 = v318; v345 = v319; v346 = v320; v347 = v321; v348 = v322; v349 = v323; v350 = v324; v351 = 1; goto v144;
+v326:;
+    memset(v80, 0, 16u);
+    memset(v81, 0, 16u);
+    memset(v82, 0, 16u);
+    memset(v83, 0, 16u);
+    memset(v84, 0, 16u);
+    memset(v85, 0, 24u);
+    v352 = 0; v353 = 0; v354 = (u8 *)0; v355 = 0; v356 = 0; v357 = (u8 *)0; v358 = 0; v359 = 0; v360 = 0; v361 = 0; v362 = (u8 *)0; v363 = 0; v364 = 0; v365 = 0; v366 = 0; v367 = (u8 *)0; v368 = 0; v369 = 0; v370 = 0; v371 = 0; v372 = (u8 *)0; v373 = 0; v374 = 0; v375 = 0; v376 = 0; goto v327;
+v144:;
+    memcpy(v80, v48, 16u);
+    memcpy(v81, v49, 16u);
+    memcpy(v82, v50, 16u);
+    memcpy(v83, v51, 16u);
+    memcpy(v84, v52, 16u);
+    memcpy(v85, v53, 24u);
+    v352 = 1; v353 = v351; v354 = v328; v355 = v329; v356 = v330; v357 = v331; v358 = v332; v359 = v333; v360 = v334; v361 = v335; v362 = v336; v363 = v337; v364 = v338; v365 = v339; v366 = v340; v367 = v341; v368 = v342; v369 = v343; v370 = v344; v371 = v345; v372 = v346; v373 = v347; v374 = v348; v375 = v349; v376 = v350;
+v327:;
+    memset(v31, 0, 16u);
+    memset(v32, 0, 16u);
+    memset(v33, 0, 16u);
+    memset(v34, 0, 16u);
+    memset(v35, 0, 16u);
+    memset(v36, 0, 24u);
+    if (!v352) { v379 = (u8 *)0; v380 = 0; v381 = 0; v382 = (u8 *)0; v383 = 0; v384 = 0; v385 = 0; v386 = 0; v387 = (u8 *)0; v388 = 0; v389 = 0; v390 = 0; v391 = 0; v392 = (u8 *)0; v393 = 0; v394 = 0; v395 = 0; v396 = 0; v397 = (u8 *)0; v398 = 0; v399 = 0; v400 = 0; v401 = 0; v402 = 0; goto v378; }
+    memcpy(v31, v80, 16u);
+    memcpy(v32, v81, 16u);
+    memcpy(v33, v82, 16u);
+    memcpy(v34, v83, 16u);
+    memcpy(v35, v84, 16u);
+    memcpy(v36, v85, 24u);
+    v379 = v354; v380 = v355; v381 = v356; v382 = v357; v383 = v358; v384 = v359; v385 = v360; v386 = v361; v387 = v362; v388 = v363; v389 = v364; v390 = v365; v391 = v366; v392 = v367; v393 = v368; v394 = v369; v395 = v370; v396 = v371; v397 = v372; v398 = v373; v399 = v374; v400 = v375; v401 = v376; v402 = v353;
+v378:;
+    memcpy(v74, v31, 16u);
+    memcpy(v75, v32, 16u);
+    memcpy(v76, v33, 16u);
+    memcpy(v77, v34, 16u);
+    memcpy(v78, v35, 16u);
+    memcpy(v79, v36, 24u);
+    if (!v352) goto v404;
+    memcpy(v68, v74, 16u);
+    memcpy(v69, v75, 16u);
+    memcpy(v70, v76, 16u);
+    memcpy(v71, v77, 16u);
+    memcpy(v72, v78, 16u);
+    memcpy(v73, v79, 24u);
+    memset(v29, 0, 31u);
+    memset(v30, 0, 56u);
+    u8 *v405 = at(ptr_1, v2);
+    u16 v407 = at(u16_1, v405 + 4);
+    u64 v409 = (u64)bswap16(v407);
+    if (v407 == 0) { v444 = (u8 *)table_55ba7287; v445 = 0; goto v411; }
+    v415 = 0;
+v412:;
+    u64 v417 = v415 << 4;
+    if (!((((at(u8, v405 + (i64)v417 + 12) == 99u) & (at(u8, v405 + (i64)v417 + 13) == 109u)) & (at(u8, v405 + (i64)v417 + 14) == 97u)) & (at(u8, v405 + (i64)v417 + 15) == 112u))) goto v413;
+    v444 = v405 + (i64)((u64)bswap32(at(u32_1, v405 + (i64)v417 + 20))); v445 = (u64)bswap32(at(u32_1, v405 + (i64)v417 + 24)); goto v411;
+v413:;
+    u64 v414 = v415 + 1;
+    if (v414 == v409) { v444 = (u8 *)table_55ba7287; v445 = 0; } else { v415 = v414; goto v412; }
+v411:;
+    font_map_chart_Chart_of_3518(v30, v2 + 72);
+    u64 v449 = at(u64, v30 + 8);
+    u8 v451 = at(u8, v30 + 16);
+    if (!(at(u8, v30) == 0)) goto v454;
+    u8 *v456 = at(ptr, v30 + 24);
+    u64 v458 = at(u64, v30 + 40);
+    u16 v460 = at(u16, v2 + 64);
+    memset(v28, 0, 32u);
+    memset(v27, 0, 24u);
+    variation_sequences_format14_Sequences_open(v27, v444, v445);
+    if (!(at(u8, v27) == 0)) goto v464;
+    at(u8, v28) = 0;
+    at(ptr, v28 + 8) = v4;
+    memset(v28 + 16, 0, 16u);
+    goto v467;
+v464:;
+    u8 *v469 = at(ptr, v27 + 8);
+    u64 v471 = at(u64, v27 + 16);
+    memset(v26, 0, 16u);
+    at(ptr, v24) = v4;
+    memset(v24 + 8, 0, 16u);
+    at(ptr, v25) = v469;
+    at(u64, v25 + 8) = v471;
+    at(u32, v25 + 16) = 0;
+    at(u32, v25 + 20) = 0;
+    at(ptr, v25 + 24) = (u8 *)table_18327a07;
+    at(u64, v25 + 32) = 4;
+    at(ptr, v25 + 40) = (u8 *)table_18327a07;
+    at(u64, v25 + 48) = 4;
+    at(u32, v25 + 56) = 1114112u;
+    memset(v25 + 60, 0, 28u);
+    variation_sequences_entries_EntriesIterator_next(v26, v25);
+    if (!(at(u8, v26) == 1)) goto v486;
+    flag v491 = v451 == 1;
+    u8 *v492 = (u8 *)v449;
+    v494 = v4; v497 = 0;
+v493:;
+    u32 v499 = at(u32, v26 + 4);
+    u32 v500 = at(u32, v26 + 8);
+    u8 v501 = at(u8, v26 + 12);
+    u16 v502 = at(u16, v26 + 14);
+    if (!v491) goto v504;
+    if (!(v500 < 1114112u)) { v513 = 0; goto v507; }
+    v513 = at(u16, v456 + (i64)((u64)(v500 << 1))); goto v507;
+v504:;
+    u16 v512 = font_map_mapping_Mapping_glyph(v492, v500);
+    v513 = v512;
+v507:;
+    if (v501 == 0) { v518 = v513; goto v515; }
+    if (v502 < v460) v518 = v502; else { v495 = v494; v498 = v497; goto v496; }
+v515:;
+    if (v518 == 0) { v495 = v494; v498 = v497; goto v496; }
+    if (!(at(u64, v24 + 16) == v497)) { v530 = v494; v531 = v497; goto v524; }
+    if (!std_alloc_vec_Vec_grow_amortized_5986(v24)) goto v527;
+    v530 = at(ptr, v24); v531 = at(u64, v24 + 8); goto v524;
+v527:;
+    if (at(u64, v24 + 16) == 0) goto v543;
+    sys_rattle_dealloc(at(ptr, v24));
+v543:;
+    memset(v29 + 7, 0, 24u);
+    v558 = 0; goto v556;
+v524:;
+    u64 v532 = v531 * 12u;
+    at(u32_1, v530 + v532) = v499;
+    at(u32_1, v530 + v532 + 4) = v500;
+    at(u16_1, v530 + v532 + 8) = v518;
+    at(u16_1, v530 + v532 + 10) = 0;
+    u64 v537 = v531 + 1;
+    at(u64, v24 + 8) = v537;
+    v495 = v530; v498 = v537;
+v496:;
+    variation_sequences_entries_EntriesIterator_next(v26, v25);
+    if (at(u8, v26) == 1) { v494 = v495; v497 = v498; goto v493; }
+    u8 *v546 = at(ptr, v24);
+    flag v548 = at(u64, v24 + 16) == 0;
+    divided_tables_sequence_tables_table_of_a10e(v28, v546, v498);
+    if (v548) goto v467;
+    sys_rattle_dealloc(v546);
+    goto v467;
+v486:;
+    at(u8, v28) = 0;
+    at(ptr, v28 + 8) = v4;
+    memset(v28 + 16, 0, 16u);
+v467:;
+    u8 v552 = at(u8, v28);
+    memcpy(v29 + 7, v28 + 8, 24u);
+    v558 = v552 == 0;
+v556:;
+    if ((v451 != 1) ? 1 : (v458 == 0)) goto v562;
+    sys_rattle_dealloc(v456);
+v562:;
+    memcpy(v86 + 7, v29 + 7, 24u);
+    if (!v558) goto v564;
+    memcpy(v96, v68, 16u);
+    memcpy(v97, v69, 16u);
+    memcpy(v98, v70, 16u);
+    memcpy(v99, v71, 16u);
+    memcpy(v100, v72, 16u);
+    memcpy(v101, v73, 24u);
+    memcpy(v102, v86 + 7, 24u);
+    v601 = 1; v602 = 0; v603 = v1; v604 = 0; v605 = 0; v606 = (u64)v2; v607 = (u64)v402; v608 = v379; v609 = v380; v610 = v381; v611 = v382; v612 = v383; v613 = v384; v614 = v385; v615 = v386; v616 = v387; v617 = v388; v618 = v389; v619 = v390; v620 = v391; v621 = v392; v622 = v393; v623 = v394; v624 = v395; v625 = v396; v626 = v397; v627 = v398; v628 = v399; v629 = v400; v630 = v401; v631 = 1; goto v141;
+v454:;
+v564:;
+    if (!(v402 == 1)) goto v572;
+    at(ptr, v87) = v379;
+    at(u64, v87 + 8) = v380;
+    memcpy(v87 + 16, v68, 16u);
+    at(u64, v87 + 32) = v381;
+    at(ptr, v87 + 40) = v382;
+    at(u64, v87 + 48) = v383;
+    at(u64, v87 + 56) = v384;
+    at(u64, v87 + 64) = v385;
+    memcpy(v87 + 72, v69, 16u);
+    at(u64, v87 + 88) = v386;
+    at(ptr, v87 + 96) = v387;
+    at(u64, v87 + 104) = v388;
+    at(u64, v87 + 112) = v389;
+    at(u64, v87 + 120) = v390;
+    memcpy(v87 + 128, v70, 16u);
+    at(u64, v87 + 144) = v391;
+    at(ptr, v87 + 152) = v392;
+    at(u64, v87 + 160) = v393;
+    at(u64, v87 + 168) = v394;
+    at(u64, v87 + 176) = v395;
+    memcpy(v87 + 184, v71, 16u);
+    at(u64, v87 + 200) = v396;
+    at(ptr, v87 + 208) = v397;
+    at(u64, v87 + 216) = v398;
+    at(u64, v87 + 224) = v399;
+    at(u64, v87 + 232) = v400;
+    memcpy(v87 + 240, v72, 16u);
+    at(u64, v87 + 256) = v401;
+    memcpy(v87 + 264, v73, 24u);
+    font_subset_further_tables_FixedTables_drop(v87);
+v572:;
+    memset(v96, 0, 16u);
+    memset(v97, 0, 16u);
+    memset(v98, 0, 16u);
+    memset(v99, 0, 16u);
+    memset(v100, 0, 16u);
+    memset(v101, 0, 24u);
+    memset(v102, 0, 24u);
+    v601 = 0; v602 = 0; v603 = 0; v604 = 0; v605 = 0; v606 = 0; v607 = 0; v608 = (u8 *)0; v609 = 0; v610 = 0; v611 = (u8 *)0; v612 = 0; v613 = 0; v614 = 0; v615 = 0; v616 = (u8 *)0; v617 = 0; v618 = 0; v619 = 0; v620 = 0; v621 = (u8 *)0; v622 = 0; v623 = 0; v624 = 0; v625 = 0; v626 = (u8 *)0; v627 = 0; v628 = 0; v629 = 0; v630 = 0; v631 = 0; goto v141;
+v404:;
+    memset(v96, 0, 16u);
+    memset(v97, 0, 16u);
+    memset(v98, 0, 16u);
+    memset(v99, 0, 16u);
+    memset(v100, 0, 16u);
+    memset(v101, 0, 24u);
+    memset(v102, 0, 24u);
+    v601 = 0; v602 = 0; v603 = 0; v604 = 0; v605 = 0; v606 = 0; v607 = 0; v608 = (u8 *)0; v609 = 0; v610 = 0; v611 = (u8 *)0; v612 = 0; v613 = 0; v614 = 0; v615 = 0; v616 = (u8 *)0; v617 = 0; v618 = 0; v619 = 0; v620 = 0; v621 = (u8 *)0; v622 = 0; v623 = 0; v624 = 0; v625 = 0; v626 = (u8 *)0; v627 = 0; v628 = 0; v629 = 0; v630 = 0; v631 = 0;
+v141:;
+    memset(v17, 0, 16u);
+    memset(v18, 0, 16u);
+    memset(v19, 0, 16u);
+    memset(v20, 0, 16u);
+    memset(v21, 0, 16u);
+    memset(v22, 0, 24u);
+    memset(v23, 0, 24u);
+    u32 v632 = (u32)v606;
+    if (!v601) { v637 = 0; v638 = 0; v639 = (u8 *)0; v640 = 0; v641 = 0; v642 = (u8 *)0; v643 = 0; v644 = 0; v645 = 0; v646 = 0; v647 = (u8 *)0; v648 = 0; v649 = 0; v650 = 0; v651 = 0; v652 = (u8 *)0; v653 = 0; v654 = 0; v655 = 0; v656 = 0; v657 = (u8 *)0; v658 = 0; v659 = 0; v660 = 0; v661 = 0; v662 = 0; v663 = v602; goto v634; }
+    memcpy(v17, v96, 16u);
+    memcpy(v18, v97, 16u);
+    memcpy(v19, v98, 16u);
+    memcpy(v20, v99, 16u);
+    memcpy(v21, v100, 16u);
+    memcpy(v22, v101, 24u);
+    memcpy(v23, v102, 24u);
+    v637 = (u32)(v606 >> 32u); v638 = v607; v639 = v608; v640 = v609; v641 = v610; v642 = v611; v643 = v612; v644 = v613; v645 = v614; v646 = v615; v647 = v616; v648 = v617; v649 = v618; v650 = v619; v651 = v620; v652 = v621; v653 = v622; v654 = v623; v655 = v624; v656 = v625; v657 = v626; v658 = v627; v659 = v628; v660 = v629; v661 = v630; v662 = v631; v663 = 0;
+v634:;
+    memcpy(v89, v17, 16u);
+    memcpy(v90, v18, 16u);
+    memcpy(v91, v19, 16u);
+    memcpy(v92, v20, 16u);
+    memcpy(v93, v21, 16u);
+    memcpy(v94, v22, 24u);
+    memcpy(v95, v23, 24u);
+    if (!v601) goto v665;
+    at(u8, v88) = v603;
+    at(u8, v88 + 1) = v604;
+    store48(v88 + 2, v605);
+    at(u32, v88 + 8) = v632;
+    at(u32, v88 + 12) = v637;
+    at(u64, v88 + 16) = v638;
+    at(ptr, v88 + 24) = v639;
+    at(u64, v88 + 32) = v640;
+    memcpy(v88 + 40, v89, 16u);
+    at(u64, v88 + 56) = v641;
+    at(ptr, v88 + 64) = v642;
+    at(u64, v88 + 72) = v643;
+    at(u64, v88 + 80) = v644;
+    at(u64, v88 + 88) = v645;
+    memcpy(v88 + 96, v90, 16u);
+    at(u64, v88 + 112) = v646;
+    at(ptr, v88 + 120) = v647;
+    at(u64, v88 + 128) = v648;
+    at(u64, v88 + 136) = v649;
+    at(u64, v88 + 144) = v650;
+    memcpy(v88 + 152, v91, 16u);
+    at(u64, v88 + 168) = v651;
+    at(ptr, v88 + 176) = v652;
+    at(u64, v88 + 184) = v653;
+    at(u64, v88 + 192) = v654;
+    at(u64, v88 + 200) = v655;
+    memcpy(v88 + 208, v92, 16u);
+    at(u64, v88 + 224) = v656;
+    at(ptr, v88 + 232) = v657;
+    at(u64, v88 + 240) = v658;
+    at(u64, v88 + 248) = v659;
+    at(u64, v88 + 256) = v660;
+    memcpy(v88 + 264, v93, 16u);
+    at(u64, v88 + 280) = v661;
+    memcpy(v88 + 288, v94, 24u);
+    at(u64, v88 + 312) = v662;
+    memcpy(v88 + 320, v95, 24u);
+    memset(v15, 0, 240u);
+    at(u64, v16) = 0;
+    if (!(v662 == 1)) goto v704;
+    u8 *v709 = at(ptr, v88 + 320);
+    u64 v711 = at(u64, v88 + 328);
+    u16 v714 = at(u16, at(ptr, v88 + 8) + 64);
+    memset(v13, 0, 6);
+    memset(v11, 0, 31u);
+    memset(v12, 0, 6);
+    if (!(v711 > 9)) { v805 = 0; v806 = v4; goto v717; }
+    if (!(at(u16_1, v709) == 3584u)) { v805 = 0; v806 = v4; goto v717; }
+    if (!(v711 == ((u64)bswap32(at(u32_1, v709 + 2))))) { v805 = 0; v806 = v4; goto v717; }
+    if (!variation_sequences_strict_is_strict(v709, v711)) { v805 = 0; v806 = v4; goto v717; }
+    u64 v731 = (u64)(((u32)v711) / 5);
+    memset(v10, 0, 16u);
+    u64_u64 v734 = sys_rattle_alloc(v731 * 12u, 4);
+    if (!(v734._0 & 1)) goto v738;
+    u8 *v740 = (u8 *)v734._1;
+    at(ptr, v8) = v740;
+    at(u64, v8 + 8) = 0;
+    at(u64, v8 + 16) = v731;
+    at(ptr, v9) = v709;
+    at(u64, v9 + 8) = v711;
+    at(u32, v9 + 16) = 0;
+    at(u32, v9 + 20) = 0;
+    at(ptr, v9 + 24) = (u8 *)table_18327a07;
+    at(u64, v9 + 32) = 4;
+    at(ptr, v9 + 40) = (u8 *)table_18327a07;
+    at(u64, v9 + 48) = 4;
+    at(u32, v9 + 56) = 1114112u;
+    memset(v9 + 60, 0, 28u);
+    variation_sequences_entries_EntriesIterator_next(v10, v9);
+    if (!(at(u8, v10) == 1)) goto v755;
+    v761 = v740; v764 = 0;
+v760:;
+    u32 v766 = at(u32, v10 + 4);
+    u32 v767 = at(u32, v10 + 8);
+    u16 v769 = at(u16, v10 + 14);
+    if ((at(u8, v10 + 12) == 0) ? 1 : ((v769 >= v714) | (v769 == 0))) { v762 = v761; v765 = v764; goto v763; }
+    if (!(at(u64, v8 + 16) == v764)) { v785 = v761; v786 = v764; goto v779; }
+    if (!std_alloc_vec_Vec_grow_amortized_5986(v8)) goto v782;
+    v785 = at(ptr, v8); v786 = at(u64, v8 + 8); goto v779;
+v782:;
+    if (at(u64, v8 + 16) == 0) goto v738;
+    sys_rattle_dealloc(at(ptr, v8));
+    goto v738;
+v779:;
+    u64 v787 = v786 * 12u;
+    at(u32_1, v785 + v787) = v766;
+    at(u32_1, v785 + v787 + 4) = v767;
+    at(u16_1, v785 + v787 + 8) = v769;
+    at(u16_1, v785 + v787 + 10) = 0;
+    u64 v792 = v786 + 1;
+    at(u64, v8 + 8) = v792;
+    v762 = v785; v765 = v792;
+v763:;
+    variation_sequences_entries_EntriesIterator_next(v10, v9);
+    if (at(u8, v10) == 1) { v761 = v762; v764 = v765; goto v760; }
+    u8 *v800 = at(ptr, v8);
+    u64 v801 = at(u64, v8 + 16);
+    memset(v5, 0, 24u);
+    if (v765 == 0) { v808 = v801; v809 = v800; goto v803; }
+    if (!(v765 < 0x1000000000000000u)) goto v813;
+    u64_u64 v816 = sys_rattle_alloc(v765 << 3, 8);
+    if (!(v816._0 & 1)) goto v813;
+    u8 *v821 = (u8 *)v816._1;
+    at(ptr, v5) = v821;
+    at(u64, v5 + 8) = 0;
+    at(u64, v5 + 16) = v765;
+    v825 = v821; v828 = 0; v830 = 0;
+v824:;
+    u64 v832 = v830 * 12u;
+    u64 v845 = ((((u64)at(u32_1, v800 + (i64)v832)) * 1114112u) + ((u64)at(u32_1, v800 + (i64)v832 + 4))) + (((u64)at(u16_1, v800 + (i64)v832 + 8)) * 0x12100000000u);
+    if (!(at(u64, v5 + 16) == v828)) { v826 = v825; v854 = v828; goto v827; }
+    if (!std_alloc_vec_Vec_grow_amortized_483f(v5)) goto v851;
+    v826 = at(ptr, v5); v854 = at(u64, v5 + 8); goto v827;
+v851:;
+    if (at(u64, v5 + 16) == 0) goto v813;
+    sys_rattle_dealloc(at(ptr, v5));
+    goto v813;
+v827:;
+    at(u64, v826 + (v854 << 3)) = v845;
+    u64 v829 = v854 + 1;
+    at(u64, v5 + 8) = v829;
+    u64 v831 = v830 + 1;
+    if (v831 == v765) { v863 = v801; v864 = v765; v865 = v800; goto v810; }
+    v825 = v826; v828 = v829; v830 = v831; goto v824;
+v813:;
+    if (v801 == 0) goto v862;
+    sys_rattle_dealloc(v800);
+    goto v862;
+v755:;
+    v805 = v731; v806 = v740; goto v717;
+v738:;
+v862:;
+    u8 v889 = at(u8, v88 + 16);
+    if ((at(u8, v88 + 312) != 1) ? 1 : (at(u64, v88 + 336) == 0)) goto v896;
+    sys_rattle_dealloc(at(ptr, v88 + 320));
+v896:;
+    if (!(v889 == 1)) goto v901;
+    font_subset_further_tables_FixedTables_drop(v88 + 24);
+v901:;
+    memset(v106, 0, 564u);
+    v920 = 1; v921 = 0; v922 = 0; v923 = 0; v924 = 0; v925 = 0; goto v870;
+v717:;
+    memset(v5 + 8, 0, 16u);
+    v808 = v805; v809 = v806;
+v803:;
+    at(ptr, v5) = v4;
+    v863 = v808; v864 = 0; v865 = v809;
+v810:;
+    memcpy(v7 + 7, v5, 24u);
+    memcpy(v6, v7 + 7, 24u);
+    std_alloc_vec_Vec_sort_unstable(v6);
+    memcpy(v11 + 7, v7 + 7, 24u);
+    memcpy(v13, v12, 6);
+    memcpy(v14, v11 + 7, 24u);
+    v871 = v714; v872 = v714; v873 = v865; v874 = v864; v875 = v863; v876 = 1; goto v708;
+v704:;
+    u16 v707 = at(u16, at(ptr, v88 + 8) + 64);
+    memset(v13, 0, 6);
+    memset(v14, 0, 24u);
+    v871 = v707; v872 = 0; v873 = (u8 *)0; v874 = 0; v875 = 0; v876 = 0;
+v708:;
+    memcpy(v16 + 18, v13, 6);
+    at(u16, v16) = v871;
+    at(u64, v16 + 8) = v876;
+    at(u16, v16 + 16) = v872;
+    at(ptr, v16 + 24) = v873;
+    at(u64, v16 + 32) = v874;
+    at(u64, v16 + 40) = v875;
+    memcpy(v16 + 48, v14, 24u);
+    divided_tables_all_tables_OpenTables_with(v15, v88, v16);
+    u8 v884 = at(u8, v15);
+    memcpy(v103, v15 + 8, 232u);
+    if (!(v884 == 1)) goto v888;
+    u8 v902 = at(u8, v88);
+    u8 v903 = at(u8, v88 + 1);
+    u64 v904 = load48(v88 + 2);
+    u32 v905 = at(u32, v88 + 8);
+    memcpy(v105, v88 + 12, 332u);
+    memcpy(v105 + 332, v103, 232u);
+    memcpy(v106, v105, 564u);
+    v920 = 0; v921 = 0; v922 = v902; v923 = v903; v924 = v904; v925 = v905; goto v870;
+v888:;
+    u8 v907 = at(u8, v88 + 16);
+    if ((at(u8, v88 + 312) != 1) ? 1 : (at(u64, v88 + 336) == 0)) goto v914;
+    sys_rattle_dealloc(at(ptr, v88 + 320));
+v914:;
+    if (!(v907 == 1)) goto v919;
+    font_subset_further_tables_FixedTables_drop(v88 + 24);
+v919:;
+    memcpy(v106, v104, 564u);
+    v920 = 1; v921 = 1; v922 = 5; v923 = 0; v924 = 0; v925 = 0; goto v870;
+v665:;
+    memset(v106, 0, 564u);
+    v920 = 1; v921 = v663; v922 = v603; v923 = v604; v924 = v605; v925 = v632;
+v870:;
+    v926 = v920; v927 = v921; v928 = v922; v929 = v923; v930 = v924; v931 = v925;
+v119:;
+    at(u32_1, v0) = v926;
+    at(u32_1, v0 + 4) = v927;
+    at(u8, v0 + 8) = v928;
+    at(u8, v0 + 9) = v929;
+    store48(v0 + 10, v930);
+    at(u32_1, v0 + 16) = v931;
+    memcpy(v0 + 20, v106, 564u);
+    return;
+}
+
+void font_subset_font_of_kind_FontOfKind_open_f514(u8 *v0, u8 v1, u8 *v2) {
+    _Alignas(4) u8 v4[1], v9[16], v10[16], v11[16], v12[16], v13[16], v14[24], v15[24], v18[16], v81[16], v82[16], v83[16], v84[16], v85[16], v86[24], v87[24], v96[564], v97[564], v98[564];
+    _Alignas(8) u8 v5[80], v6[24], v7[240], v8[72], v16[24], v17[88], v19[24], v20[32], v22[56], v23[16], v24[16], v25[16], v26[16], v27[16], v28[24], v35[64], v36[64], v37[64], v38[64], v39[64], v40[16], v41[16], v42[16], v43[16], v44[16], v45[24], v52[16], v53[16], v54[16], v55[16], v56[16], v57[24], v60[16], v61[16], v62[16], v63[16], v64[16], v65[24], v66[16], v67[16], v68[16], v69[16], v70[16], v71[24], v72[16], v73[16], v74[16], v75[16], v76[16], v77[24], v79[288], v80[344], v88[16], v89[16], v90[16], v91[16], v92[16], v93[24], v94[24], v95[232], v99[576];
+    u8 v21[31], v29[16], v30[16], v31[16], v32[16], v33[16], v34[24], v46[16], v47[16], v48[16], v49[16], v50[16], v51[24], v58[6], v59[6], v78[31], v126, v127, *v269, *v272, *v277, *v282, *v287, *v294, *v297, *v302, *v307, *v312, *v320, *v323, *v328, *v333, *v338, v343, v345, *v346, *v349, *v354, *v359, *v364, *v371, *v374, *v379, *v384, *v389, v394, *v436, *v486, *v522, *v487, v595, v596, *v600, *v603, *v608, *v613, *v618, *v631, *v634, *v639, *v644, *v649, v748, v749, v754, v755;
+    u32 v128, v594, v629, v655, v746, v747, v751, v752, v753, v757;
+    flag v268, v344, v550, v593;
+    u64 v270, v271, v273, v274, v275, v276, v278, v279, v280, v281, v283, v284, v285, v286, v288, v289, v290, v291, v295, v296, v298, v299, v300, v301, v303, v304, v305, v306, v308, v309, v310, v311, v313, v314, v315, v316, v321, v322, v324, v325, v326, v327, v329, v330, v331, v332, v334, v335, v336, v337, v339, v340, v341, v342, v347, v348, v350, v351, v352, v353, v355, v356, v357, v358, v360, v361, v362, v363, v365, v366, v367, v368, v372, v373, v375, v376, v377, v378, v380, v381, v382, v383, v385, v386, v387, v388, v390, v391, v392, v393, v407, v437, v489, v523, v490, v597, v598, v599, v601, v602, v604, v605, v606, v607, v609, v610, v611, v612, v614, v615, v616, v617, v619, v620, v621, v622, v623, v630, v632, v633, v635, v636, v637, v638, v640, v641, v642, v643, v645, v646, v647, v648, v650, v651, v652, v653, v654, v750, v756;
+    u16 v505, v510;
+    memset(v98, 0, 564u);
+    memset(v99, 0, 576u);
+    if (!(v1 < 2)) goto v102;
+    font_subset_font_of_kind_FontOfKind_plain(v99, v1, v2);
+    u8 v103 = at(u8, v99);
+    u8 v105 = at(u8, v99 + 1);
+    u64 v107 = load48(v99 + 2);
+    u32 v109 = at(u32, v99 + 8);
+    memcpy(v98, v99 + 12, 564u);
+    v752 = 0; v753 = 0; v754 = v103; v755 = v105; v756 = v107; v757 = v109; goto v111;
+v102:;
+    memset(v80, 0, 344u);
+    memset(v81, 0, 16u);
+    memset(v82, 0, 16u);
+    memset(v83, 0, 16u);
+    memset(v84, 0, 16u);
+    memset(v85, 0, 16u);
+    memset(v86, 0, 24u);
+    memset(v87, 0, 24u);
+    memset(v88, 0, 16u);
+    memset(v89, 0, 16u);
+    memset(v90, 0, 16u);
+    memset(v91, 0, 16u);
+    memset(v92, 0, 16u);
+    memset(v93, 0, 24u);
+    memset(v94, 0, 24u);
+    memset(v95, 0, 232u);
+    memset(v96, 0, 564u);
+    memset(v97, 0, 564u);
     memset(v60, 0, 16u);
     memset(v61, 0, 16u);
     memset(v62, 0, 16u);
@@ -3791,343 +5591,585 @@ v83:;
     memset(v69, 0, 16u);
     memset(v70, 0, 16u);
     memset(v71, 0, 24u);
-    memset(v72, 0, 168u);
-    memset(v73, 0, 288u);
-    memset(v74, 0, 160u);
-    memset(v75, 0, 312u);
+    memset(v72, 0, 16u);
+    memset(v73, 0, 16u);
+    memset(v74, 0, 16u);
+    memset(v75, 0, 16u);
+    memset(v76, 0, 16u);
+    memset(v77, 0, 24u);
+    memset(v78, 0, 31u);
+    memset(v79, 0, 288u);
+    if (!(v1 == 3)) goto v114;
+    memset(v58, 0, 6);
+    sfnt_bytes_directory_Directory_check_tags(v58, v2, (u8 *)text_BASEGDEFGPOSGSUBHVARMVAR, 13u);
+    v126 = at(u8, v58); v127 = at(u8, v58 + 1); v128 = at(u32_1, v58 + 2); goto v120;
+v114:;
+    memset(v59, 0, 6);
+    sfnt_bytes_directory_Directory_check_tags(v59, v2, (u8 *)text_BASEGDEFGPOSGSUBkern, 5);
+    v126 = at(u8, v59); v127 = at(u8, v59 + 1); v128 = at(u32_1, v59 + 2);
+v120:;
+    if (!(v126 == 1)) goto v131;
+    memset(v88, 0, 16u);
+    memset(v89, 0, 16u);
+    memset(v90, 0, 16u);
+    memset(v91, 0, 16u);
+    memset(v92, 0, 16u);
+    memset(v93, 0, 24u);
+    memset(v94, 0, 24u);
+    v593 = 0; v594 = 1; v595 = 0; v596 = v127; v597 = (u64)v128; v598 = 0; v599 = 0; v600 = (u8 *)0; v601 = 0; v602 = 0; v603 = (u8 *)0; v604 = 0; v605 = 0; v606 = 0; v607 = 0; v608 = (u8 *)0; v609 = 0; v610 = 0; v611 = 0; v612 = 0; v613 = (u8 *)0; v614 = 0; v615 = 0; v616 = 0; v617 = 0; v618 = (u8 *)0; v619 = 0; v620 = 0; v621 = 0; v622 = 0; v623 = 0; goto v133;
+v131:;
+    memset(v40, 0, 16u);
+    memset(v41, 0, 16u);
+    memset(v42, 0, 16u);
+    memset(v43, 0, 16u);
+    memset(v44, 0, 16u);
+    memset(v45, 0, 24u);
+    memset(v46, 0, 16u);
     memset(v47, 0, 16u);
     memset(v48, 0, 16u);
     memset(v49, 0, 16u);
     memset(v50, 0, 16u);
-    memset(v51, 0, 16u);
-    memset(v52, 0, 24u);
+    memset(v51, 0, 24u);
+    if (!(v1 == 2)) { v320 = (u8 *)0; v321 = 0; v322 = 0; v323 = (u8 *)0; v324 = 0; v325 = 0; v326 = 0; v327 = 0; v328 = (u8 *)0; v329 = 0; v330 = 0; v331 = 0; v332 = 0; v333 = (u8 *)0; v334 = 0; v335 = 0; v336 = 0; v337 = 0; v338 = (u8 *)0; v339 = 0; v340 = 0; v341 = 0; v342 = 0; v343 = 0; goto v136; }
+    memset(v35, 0, 64u);
+    memset(v36, 0, 64u);
+    memset(v37, 0, 64u);
+    memset(v38, 0, 64u);
+    memset(v39, 0, 64u);
+    font_subset_further_tables_FixedTable_of_1948(v35, v2, 16u);
+    u8 v139 = at(u8, v35 + 32);
+    if (!(at(u8, v35) == 0)) goto v142;
+    u8 *v147 = at(ptr, v35 + 40);
+    u64 v149 = at(u64, v35 + 48);
+    u64 v151 = at(u64, v35 + 56);
+    u64 v152 = (u64)at(u8, v35 + 8);
+    u64 v153 = (u64)v139;
+    font_subset_further_tables_FixedTable_of_1948(v36, v2, 17u);
+    u8 v156 = at(u8, v36 + 32);
+    if (!(at(u8, v36) == 0)) goto v159;
+    u8 *v165 = at(ptr, v36 + 40);
+    u64 v167 = at(u64, v36 + 48);
+    u64 v169 = at(u64, v36 + 56);
+    u64 v170 = (u64)at(u8, v36 + 8);
+    u64 v171 = (u64)v156;
+    font_subset_further_tables_FixedTable_of_1948(v37, v2, 18u);
+    u8 v174 = at(u8, v37 + 32);
+    if (!(at(u8, v37) == 0)) goto v177;
+    u8 *v187 = at(ptr, v37 + 40);
+    u64 v189 = at(u64, v37 + 48);
+    u64 v191 = at(u64, v37 + 56);
+    u64 v192 = (u64)at(u8, v37 + 8);
+    u64 v193 = (u64)v174;
+    font_subset_further_tables_FixedTable_of_1948(v38, v2, 19u);
+    u8 v196 = at(u8, v38 + 8);
+    u8 v198 = at(u8, v38 + 32);
+    if (!(at(u8, v38) == 0)) goto v201;
+    u8 *v213 = at(ptr, v38 + 40);
+    u64 v215 = at(u64, v38 + 48);
+    u64 v217 = at(u64, v38 + 56);
+    font_subset_further_tables_FixedTable_of_1948(v39, v2, 20u);
+    if (!(at(u8, v39) == 0)) goto v221;
+    u64 v246 = (u64)at(u8, v39 + 8);
+    u64 v247 = (u64)at(u8, v39 + 32);
+    memcpy(v52, v35 + 16, 16u);
+    memcpy(v53, v36 + 16, 16u);
+    memcpy(v54, v37 + 16, 16u);
+    memcpy(v55, v38 + 16, 16u);
+    memcpy(v56, v39 + 16, 16u);
+    memcpy(v57, v39 + 40, 24u);
+    v268 = 1; v269 = v2; v270 = v152; v271 = v153; v272 = v147; v273 = v149; v274 = v151; v275 = v170; v276 = v171; v277 = v165; v278 = v167; v279 = v169; v280 = v192; v281 = v193; v282 = v187; v283 = v189; v284 = v191; v285 = (u64)v196; v286 = (u64)v198; v287 = v213; v288 = v215; v289 = v217; v290 = v246; v291 = v247; goto v160;
+v221:;
+    if ((v198 != 1) ? 1 : (v217 == 0)) goto v251;
+    sys_rattle_dealloc(v213);
+v251:;
+    if ((v174 != 1) ? 1 : (v191 == 0)) goto v256;
+    sys_rattle_dealloc(v187);
+v256:;
+    if ((v156 != 1) ? 1 : (v169 == 0)) goto v261;
+    sys_rattle_dealloc(v165);
+v261:;
+    if ((v139 != 1) ? 1 : (v151 == 0)) goto v266;
+    sys_rattle_dealloc(v147);
+v266:;
+    memset(v52, 0, 16u);
     memset(v53, 0, 16u);
     memset(v54, 0, 16u);
     memset(v55, 0, 16u);
     memset(v56, 0, 16u);
-    memset(v57, 0, 16u);
-    memset(v58, 0, 24u);
-    if (!(v1 == 3)) goto v96;
-    memset(v45, 0, 6);
-    sfnt_bytes_directory_Directory_check_tags(v45, v2, (u8 *)text_BASEGDEFGPOSGSUBHVARMVAR, 13u);
-    v108 = at(u8, v45); v109 = at(u8, v45 + 1); v110 = at(u32_1, v45 + 2); goto v102;
-v96:;
-    memset(v46, 0, 6);
-    sfnt_bytes_directory_Directory_check_tags(v46, v2, (u8 *)text_BASEGDEFGPOSGSUBkern, 5);
-    v108 = at(u8, v46); v109 = at(u8, v46 + 1); v110 = at(u32_1, v46 + 2);
-v102:;
-    if (!(v108 == 1)) goto v113;
-    memset(v66, 0, 16u);
-    memset(v67, 0, 16u);
-    memset(v68, 0, 16u);
-    memset(v69, 0, 16u);
-    memset(v70, 0, 16u);
-    memset(v71, 0, 24u);
-    v379 = 0; v380 = 1; v381 = 0; v382 = v109; v383 = v110; v384 = 0; v385 = 0; v386 = (u8 *)0; v387 = 0; v388 = 0; v389 = (u8 *)0; v390 = 0; v391 = 0; v392 = 0; v393 = 0; v394 = (u8 *)0; v395 = 0; v396 = 0; v397 = 0; v398 = 0; v399 = (u8 *)0; v400 = 0; v401 = 0; v402 = 0; v403 = 0; v404 = (u8 *)0; v405 = 0; v406 = 0; v407 = 0; v408 = 0; goto v114;
-v113:;
-    memset(v27, 0, 16u);
-    memset(v28, 0, 16u);
+    memset(v57, 0, 24u);
+    v268 = 0; v269 = (u8 *)0; v270 = 0; v271 = 0; v272 = (u8 *)0; v273 = 0; v274 = 0; v275 = 0; v276 = 0; v277 = (u8 *)0; v278 = 0; v279 = 0; v280 = 0; v281 = 0; v282 = (u8 *)0; v283 = 0; v284 = 0; v285 = 0; v286 = 0; v287 = (u8 *)0; v288 = 0; v289 = 0; v290 = 0; v291 = 0; goto v160;
+v201:;
+    if ((v174 != 1) ? 1 : (v191 == 0)) goto v225;
+    sys_rattle_dealloc(v187);
+v225:;
+    if ((v156 != 1) ? 1 : (v169 == 0)) goto v230;
+    sys_rattle_dealloc(v165);
+v230:;
+    if ((v139 != 1) ? 1 : (v151 == 0)) goto v235;
+    sys_rattle_dealloc(v147);
+v235:;
+    memset(v52, 0, 16u);
+    memset(v53, 0, 16u);
+    memset(v54, 0, 16u);
+    memset(v55, 0, 16u);
+    memset(v56, 0, 16u);
+    memset(v57, 0, 24u);
+    v268 = 0; v269 = (u8 *)0; v270 = 0; v271 = 0; v272 = (u8 *)0; v273 = 0; v274 = 0; v275 = 0; v276 = 0; v277 = (u8 *)0; v278 = 0; v279 = 0; v280 = 0; v281 = 0; v282 = (u8 *)0; v283 = 0; v284 = 0; v285 = 0; v286 = 0; v287 = (u8 *)0; v288 = 0; v289 = 0; v290 = 0; v291 = 0; goto v160;
+v177:;
+    if ((v156 != 1) ? 1 : (v169 == 0)) goto v205;
+    sys_rattle_dealloc(v165);
+v205:;
+    if ((v139 != 1) ? 1 : (v151 == 0)) goto v210;
+    sys_rattle_dealloc(v147);
+v210:;
+    memset(v52, 0, 16u);
+    memset(v53, 0, 16u);
+    memset(v54, 0, 16u);
+    memset(v55, 0, 16u);
+    memset(v56, 0, 16u);
+    memset(v57, 0, 24u);
+    v268 = 0; v269 = (u8 *)0; v270 = 0; v271 = 0; v272 = (u8 *)0; v273 = 0; v274 = 0; v275 = 0; v276 = 0; v277 = (u8 *)0; v278 = 0; v279 = 0; v280 = 0; v281 = 0; v282 = (u8 *)0; v283 = 0; v284 = 0; v285 = 0; v286 = 0; v287 = (u8 *)0; v288 = 0; v289 = 0; v290 = 0; v291 = 0; goto v160;
+v159:;
+    if ((v139 != 1) ? 1 : (v151 == 0)) goto v181;
+    sys_rattle_dealloc(v147);
+v181:;
+    memset(v52, 0, 16u);
+    memset(v53, 0, 16u);
+    memset(v54, 0, 16u);
+    memset(v55, 0, 16u);
+    memset(v56, 0, 16u);
+    memset(v57, 0, 24u);
+    v268 = 0; v269 = (u8 *)0; v270 = 0; v271 = 0; v272 = (u8 *)0; v273 = 0; v274 = 0; v275 = 0; v276 = 0; v277 = (u8 *)0; v278 = 0; v279 = 0; v280 = 0; v281 = 0; v282 = (u8 *)0; v283 = 0; v284 = 0; v285 = 0; v286 = 0; v287 = (u8 *)0; v288 = 0; v289 = 0; v290 = 0; v291 = 0; goto v160;
+v142:;
+    memset(v52, 0, 16u);
+    memset(v53, 0, 16u);
+    memset(v54, 0, 16u);
+    memset(v55, 0, 16u);
+    memset(v56, 0, 16u);
+    memset(v57, 0, 24u);
+    v268 = 0; v269 = (u8 *)0; v270 = 0; v271 = 0; v272 = (u8 *)0; v273 = 0; v274 = 0; v275 = 0; v276 = 0; v277 = (u8 *)0; v278 = 0; v279 = 0; v280 = 0; v281 = 0; v282 = (u8 *)0; v283 = 0; v284 = 0; v285 = 0; v286 = 0; v287 = (u8 *)0; v288 = 0; v289 = 0; v290 = 0; v291 = 0;
+v160:;
     memset(v29, 0, 16u);
     memset(v30, 0, 16u);
     memset(v31, 0, 16u);
-    memset(v32, 0, 24u);
+    memset(v32, 0, 16u);
     memset(v33, 0, 16u);
-    memset(v34, 0, 16u);
-    memset(v35, 0, 16u);
-    memset(v36, 0, 16u);
-    memset(v37, 0, 16u);
-    memset(v38, 0, 24u);
-    if (!(v1 == 2)) { v301 = (u8 *)0; v302 = 0; v303 = 0; v304 = (u8 *)0; v305 = 0; v306 = 0; v307 = 0; v308 = 0; v309 = (u8 *)0; v310 = 0; v311 = 0; v312 = 0; v313 = 0; v314 = (u8 *)0; v315 = 0; v316 = 0; v317 = 0; v318 = 0; v319 = (u8 *)0; v320 = 0; v321 = 0; v322 = 0; v323 = 0; v324 = 0; goto v117; }
-    memset(v22, 0, 64u);
-    memset(v23, 0, 64u);
-    memset(v24, 0, 64u);
-    memset(v25, 0, 64u);
-    memset(v26, 0, 64u);
-    font_subset_further_tables_FixedTable_of_1948(v22, v2, 16u);
-    u8 v120 = at(u8, v22 + 32);
-    if (!(at(u8, v22) == 0)) goto v123;
-    u8 *v128 = at(ptr, v22 + 40);
-    u64 v130 = at(u64, v22 + 48);
-    u64 v132 = at(u64, v22 + 56);
-    u64 v133 = (u64)at(u8, v22 + 8);
-    u64 v134 = (u64)v120;
-    font_subset_further_tables_FixedTable_of_1948(v23, v2, 17u);
-    u8 v137 = at(u8, v23 + 32);
-    if (!(at(u8, v23) == 0)) goto v140;
-    u8 *v146 = at(ptr, v23 + 40);
-    u64 v148 = at(u64, v23 + 48);
-    u64 v150 = at(u64, v23 + 56);
-    u64 v151 = (u64)at(u8, v23 + 8);
-    u64 v152 = (u64)v137;
-    font_subset_further_tables_FixedTable_of_1948(v24, v2, 18u);
-    u8 v155 = at(u8, v24 + 32);
-    if (!(at(u8, v24) == 0)) goto v158;
-    u8 *v168 = at(ptr, v24 + 40);
-    u64 v170 = at(u64, v24 + 48);
-    u64 v172 = at(u64, v24 + 56);
-    u64 v173 = (u64)at(u8, v24 + 8);
-    u64 v174 = (u64)v155;
-    font_subset_further_tables_FixedTable_of_1948(v25, v2, 19u);
-    u8 v177 = at(u8, v25 + 8);
-    u8 v179 = at(u8, v25 + 32);
-    if (!(at(u8, v25) == 0)) goto v182;
-    u8 *v194 = at(ptr, v25 + 40);
-    u64 v196 = at(u64, v25 + 48);
-    u64 v198 = at(u64, v25 + 56);
-    font_subset_further_tables_FixedTable_of_1948(v26, v2, 20u);
-    if (!(at(u8, v26) == 0)) goto v202;
-    u64 v227 = (u64)at(u8, v26 + 8);
-    u64 v228 = (u64)at(u8, v26 + 32);
-    memcpy(v39, v22 + 16, 16u);
-    memcpy(v40, v23 + 16, 16u);
-    memcpy(v41, v24 + 16, 16u);
-    memcpy(v42, v25 + 16, 16u);
-    memcpy(v43, v26 + 16, 16u);
-    memcpy(v44, v26 + 40, 24u);
-    v249 = 1; v250 = v2; v251 = v133; v252 = v134; v253 = v128; v254 = v130; v255 = v132; v256 = v151; v257 = v152; v258 = v146; v259 = v148; v260 = v150; v261 = v173; v262 = v174; v263 = v168; v264 = v170; v265 = v172; v266 = (u64)v177; v267 = (u64)v179; v268 = v194; v269 = v196; v270 = v198; v271 = v227; v272 = v228; goto v141;
-v202:;
-    if ((v179 != 1) ? 1 : (v198 == 0)) goto v232;
-    sys_rattle_dealloc(v194);
-v232:;
-    if ((v155 != 1) ? 1 : (v172 == 0)) goto v237;
-    sys_rattle_dealloc(v168);
-v237:;
-    if ((v137 != 1) ? 1 : (v150 == 0)) goto v242;
-    sys_rattle_dealloc(v146);
-v242:;
-    if ((v120 != 1) ? 1 : (v132 == 0)) goto v247;
-    sys_rattle_dealloc(v128);
-v247:;
-    memset(v39, 0, 16u);
-    memset(v40, 0, 16u);
-    memset(v41, 0, 16u);
-    memset(v42, 0, 16u);
-    memset(v43, 0, 16u);
-    memset(v44, 0, 24u);
-    v249 = 0; v250 = (u8 *)0; v251 = 0; v252 = 0; v253 = (u8 *)0; v254 = 0; v255 = 0; v256 = 0; v257 = 0; v258 = (u8 *)0; v259 = 0; v260 = 0; v261 = 0; v262 = 0; v263 = (u8 *)0; v264 = 0; v265 = 0; v266 = 0; v267 = 0; v268 = (u8 *)0; v269 = 0; v270 = 0; v271 = 0; v272 = 0; goto v141;
-v182:;
-    if ((v155 != 1) ? 1 : (v172 == 0)) goto v206;
-    sys_rattle_dealloc(v168);
-v206:;
-    if ((v137 != 1) ? 1 : (v150 == 0)) goto v211;
-    sys_rattle_dealloc(v146);
-v211:;
-    if ((v120 != 1) ? 1 : (v132 == 0)) goto v216;
-    sys_rattle_dealloc(v128);
-v216:;
-    memset(v39, 0, 16u);
-    memset(v40, 0, 16u);
-    memset(v41, 0, 16u);
-    memset(v42, 0, 16u);
-    memset(v43, 0, 16u);
-    memset(v44, 0, 24u);
-    v249 = 0; v250 = (u8 *)0; v251 = 0; v252 = 0; v253 = (u8 *)0; v254 = 0; v255 = 0; v256 = 0; v257 = 0; v258 = (u8 *)0; v259 = 0; v260 = 0; v261 = 0; v262 = 0; v263 = (u8 *)0; v264 = 0; v265 = 0; v266 = 0; v267 = 0; v268 = (u8 *)0; v269 = 0; v270 = 0; v271 = 0; v272 = 0; goto v141;
-v158:;
-    if ((v137 != 1) ? 1 : (v150 == 0)) goto v186;
-    sys_rattle_dealloc(v146);
-v186:;
-    if ((v120 != 1) ? 1 : (v132 == 0)) goto v191;
-    sys_rattle_dealloc(v128);
-v191:;
-    memset(v39, 0, 16u);
-    memset(v40, 0, 16u);
-    memset(v41, 0, 16u);
-    memset(v42, 0, 16u);
-    memset(v43, 0, 16u);
-    memset(v44, 0, 24u);
-    v249 = 0; v250 = (u8 *)0; v251 = 0; v252 = 0; v253 = (u8 *)0; v254 = 0; v255 = 0; v256 = 0; v257 = 0; v258 = (u8 *)0; v259 = 0; v260 = 0; v261 = 0; v262 = 0; v263 = (u8 *)0; v264 = 0; v265 = 0; v266 = 0; v267 = 0; v268 = (u8 *)0; v269 = 0; v270 = 0; v271 = 0; v272 = 0; goto v141;
-v140:;
-    if ((v120 != 1) ? 1 : (v132 == 0)) goto v162;
-    sys_rattle_dealloc(v128);
-v162:;
-    memset(v39, 0, 16u);
-    memset(v40, 0, 16u);
-    memset(v41, 0, 16u);
-    memset(v42, 0, 16u);
-    memset(v43, 0, 16u);
-    memset(v44, 0, 24u);
-    v249 = 0; v250 = (u8 *)0; v251 = 0; v252 = 0; v253 = (u8 *)0; v254 = 0; v255 = 0; v256 = 0; v257 = 0; v258 = (u8 *)0; v259 = 0; v260 = 0; v261 = 0; v262 = 0; v263 = (u8 *)0; v264 = 0; v265 = 0; v266 = 0; v267 = 0; v268 = (u8 *)0; v269 = 0; v270 = 0; v271 = 0; v272 = 0; goto v141;
-v123:;
-    memset(v39, 0, 16u);
-    memset(v40, 0, 16u);
-    memset(v41, 0, 16u);
-    memset(v42, 0, 16u);
-    memset(v43, 0, 16u);
-    memset(v44, 0, 24u);
-    v249 = 0; v250 = (u8 *)0; v251 = 0; v252 = 0; v253 = (u8 *)0; v254 = 0; v255 = 0; v256 = 0; v257 = 0; v258 = (u8 *)0; v259 = 0; v260 = 0; v261 = 0; v262 = 0; v263 = (u8 *)0; v264 = 0; v265 = 0; v266 = 0; v267 = 0; v268 = (u8 *)0; v269 = 0; v270 = 0; v271 = 0; v272 = 0;
-v141:;
-    memset(v16, 0, 16u);
-    memset(v17, 0, 16u);
+    memset(v34, 0, 24u);
+    if (!v268) { v294 = (u8 *)0; v295 = 0; v296 = 0; v297 = (u8 *)0; v298 = 0; v299 = 0; v300 = 0; v301 = 0; v302 = (u8 *)0; v303 = 0; v304 = 0; v305 = 0; v306 = 0; v307 = (u8 *)0; v308 = 0; v309 = 0; v310 = 0; v311 = 0; v312 = (u8 *)0; v313 = 0; v314 = 0; v315 = 0; v316 = 0; goto v293; }
+    memcpy(v29, v52, 16u);
+    memcpy(v30, v53, 16u);
+    memcpy(v31, v54, 16u);
+    memcpy(v32, v55, 16u);
+    memcpy(v33, v56, 16u);
+    memcpy(v34, v57, 24u);
+    v294 = v269; v295 = v270; v296 = v271; v297 = v272; v298 = v273; v299 = v274; v300 = v275; v301 = v276; v302 = v277; v303 = v278; v304 = v279; v305 = v280; v306 = v281; v307 = v282; v308 = v283; v309 = v284; v310 = v285; v311 = v286; v312 = v287; v313 = v288; v314 = v289; v315 = v290; v316 = v291;
+v293:;
+    memcpy(v46, v29, 16u);
+    memcpy(v47, v30, 16u);
+    memcpy(v48, v31, 16u);
+    memcpy(v49, v32, 16u);
+    memcpy(v50, v33, 16u);
+    memcpy(v51, v34, 24u);
+    if (!v268) goto v318;
+    memcpy(v40, v46, 16u);
+    memcpy(v41, v47, 16u);
+    memcpy(v42, v48, 16u);
+    memcpy(v43, v49, 16u);
+    memcpy(v44, v50, 16u);
+    memcpy(v45, v51, 24u);
+    v320 = v294; v321 = v295; v322 = v296; v323 = v297; v324 = v298; v325 = v299; v326 = v300; v327 = v301; v328 = v302; v329 = v303; v330 = v304; v331 = v305; v332 = v306; v333 = v307; v334 = v308; v335 = v309; v336 = v310; v337 = v311; v338 = v312; v339 = v313; v340 = v314; v341 = v315; v342 = v316; v343 = 1; goto v136;
+v318:;
+    memset(v72, 0, 16u);
+    memset(v73, 0, 16u);
+    memset(v74, 0, 16u);
+    memset(v75, 0, 16u);
+    memset(v76, 0, 16u);
+    memset(v77, 0, 24u);
+    v344 = 0; v345 = 0; v346 = (u8 *)0; v347 = 0; v348 = 0; v349 = (u8 *)0; v350 = 0; v351 = 0; v352 = 0; v353 = 0; v354 = (u8 *)0; v355 = 0; v356 = 0; v357 = 0; v358 = 0; v359 = (u8 *)0; v360 = 0; v361 = 0; v362 = 0; v363 = 0; v364 = (u8 *)0; v365 = 0; v366 = 0; v367 = 0; v368 = 0; goto v319;
+v136:;
+    memcpy(v72, v40, 16u);
+    memcpy(v73, v41, 16u);
+    memcpy(v74, v42, 16u);
+    memcpy(v75, v43, 16u);
+    memcpy(v76, v44, 16u);
+    memcpy(v77, v45, 24u);
+    v344 = 1; v345 = v343; v346 = v320; v347 = v321; v348 = v322; v349 = v323; v350 = v324; v351 = v325; v352 = v326; v353 = v327; v354 = v328; v355 = v329; v356 = v330; v357 = v331; v358 = v332; v359 = v333; v360 = v334; v361 = v335; v362 = v336; v363 = v337; v364 = v338; v365 = v339; v366 = v340; v367 = v341; v368 = v342;
+v319:;
+    memset(v23, 0, 16u);
+    memset(v24, 0, 16u);
+    memset(v25, 0, 16u);
+    memset(v26, 0, 16u);
+    memset(v27, 0, 16u);
+    memset(v28, 0, 24u);
+    if (!v344) { v371 = (u8 *)0; v372 = 0; v373 = 0; v374 = (u8 *)0; v375 = 0; v376 = 0; v377 = 0; v378 = 0; v379 = (u8 *)0; v380 = 0; v381 = 0; v382 = 0; v383 = 0; v384 = (u8 *)0; v385 = 0; v386 = 0; v387 = 0; v388 = 0; v389 = (u8 *)0; v390 = 0; v391 = 0; v392 = 0; v393 = 0; v394 = 0; goto v370; }
+    memcpy(v23, v72, 16u);
+    memcpy(v24, v73, 16u);
+    memcpy(v25, v74, 16u);
+    memcpy(v26, v75, 16u);
+    memcpy(v27, v76, 16u);
+    memcpy(v28, v77, 24u);
+    v371 = v346; v372 = v347; v373 = v348; v374 = v349; v375 = v350; v376 = v351; v377 = v352; v378 = v353; v379 = v354; v380 = v355; v381 = v356; v382 = v357; v383 = v358; v384 = v359; v385 = v360; v386 = v361; v387 = v362; v388 = v363; v389 = v364; v390 = v365; v391 = v366; v392 = v367; v393 = v368; v394 = v345;
+v370:;
+    memcpy(v66, v23, 16u);
+    memcpy(v67, v24, 16u);
+    memcpy(v68, v25, 16u);
+    memcpy(v69, v26, 16u);
+    memcpy(v70, v27, 16u);
+    memcpy(v71, v28, 24u);
+    if (!v344) goto v396;
+    memcpy(v60, v66, 16u);
+    memcpy(v61, v67, 16u);
+    memcpy(v62, v68, 16u);
+    memcpy(v63, v69, 16u);
+    memcpy(v64, v70, 16u);
+    memcpy(v65, v71, 24u);
+    memset(v21, 0, 31u);
+    memset(v22, 0, 56u);
+    u8 *v397 = at(ptr_1, v2);
+    u16 v399 = at(u16_1, v397 + 4);
+    u64 v401 = (u64)bswap16(v399);
+    if (v399 == 0) { v436 = (u8 *)table_55ba7287; v437 = 0; goto v403; }
+    v407 = 0;
+v404:;
+    u64 v409 = v407 << 4;
+    if (!((((at(u8, v397 + (i64)v409 + 12) == 99u) & (at(u8, v397 + (i64)v409 + 13) == 109u)) & (at(u8, v397 + (i64)v409 + 14) == 97u)) & (at(u8, v397 + (i64)v409 + 15) == 112u))) goto v405;
+    v436 = v397 + (i64)((u64)bswap32(at(u32_1, v397 + (i64)v409 + 20))); v437 = (u64)bswap32(at(u32_1, v397 + (i64)v409 + 24)); goto v403;
+v405:;
+    u64 v406 = v407 + 1;
+    if (v406 == v401) { v436 = (u8 *)table_55ba7287; v437 = 0; } else { v407 = v406; goto v404; }
+v403:;
+    font_map_chart_Chart_of_3518(v22, v2 + 72);
+    u64 v441 = at(u64, v22 + 8);
+    u8 v443 = at(u8, v22 + 16);
+    if (!(at(u8, v22) == 0)) goto v446;
+    u8 *v448 = at(ptr, v22 + 24);
+    u64 v450 = at(u64, v22 + 40);
+    u16 v452 = at(u16, v2 + 64);
+    memset(v20, 0, 32u);
+    memset(v19, 0, 24u);
+    variation_sequences_format14_Sequences_open(v19, v436, v437);
+    if (!(at(u8, v19) == 0)) goto v456;
+    at(u8, v20) = 0;
+    at(ptr, v20 + 8) = v4;
+    memset(v20 + 16, 0, 16u);
+    goto v459;
+v456:;
+    u8 *v461 = at(ptr, v19 + 8);
+    u64 v463 = at(u64, v19 + 16);
     memset(v18, 0, 16u);
-    memset(v19, 0, 16u);
-    memset(v20, 0, 16u);
-    memset(v21, 0, 24u);
-    if (!v249) { v275 = (u8 *)0; v276 = 0; v277 = 0; v278 = (u8 *)0; v279 = 0; v280 = 0; v281 = 0; v282 = 0; v283 = (u8 *)0; v284 = 0; v285 = 0; v286 = 0; v287 = 0; v288 = (u8 *)0; v289 = 0; v290 = 0; v291 = 0; v292 = 0; v293 = (u8 *)0; v294 = 0; v295 = 0; v296 = 0; v297 = 0; goto v274; }
-    memcpy(v16, v39, 16u);
-    memcpy(v17, v40, 16u);
-    memcpy(v18, v41, 16u);
-    memcpy(v19, v42, 16u);
-    memcpy(v20, v43, 16u);
-    memcpy(v21, v44, 24u);
-    v275 = v250; v276 = v251; v277 = v252; v278 = v253; v279 = v254; v280 = v255; v281 = v256; v282 = v257; v283 = v258; v284 = v259; v285 = v260; v286 = v261; v287 = v262; v288 = v263; v289 = v264; v290 = v265; v291 = v266; v292 = v267; v293 = v268; v294 = v269; v295 = v270; v296 = v271; v297 = v272;
-v274:;
-    memcpy(v33, v16, 16u);
-    memcpy(v34, v17, 16u);
-    memcpy(v35, v18, 16u);
-    memcpy(v36, v19, 16u);
-    memcpy(v37, v20, 16u);
-    memcpy(v38, v21, 24u);
-    if (!v249) goto v299;
-    memcpy(v27, v33, 16u);
-    memcpy(v28, v34, 16u);
-    memcpy(v29, v35, 16u);
-    memcpy(v30, v36, 16u);
-    memcpy(v31, v37, 16u);
-    memcpy(v32, v38, 24u);
-    v301 = v275; v302 = v276; v303 = v277; v304 = v278; v305 = v279; v306 = v280; v307 = v281; v308 = v282; v309 = v283; v310 = v284; v311 = v285; v312 = v286; v313 = v287; v314 = v288; v315 = v289; v316 = v290; v317 = v291; v318 = v292; v319 = v293; v320 = v294; v321 = v295; v322 = v296; v323 = v297; v324 = 1; goto v117;
-v299:;
-    memset(v53, 0, 16u);
-    memset(v54, 0, 16u);
-    memset(v55, 0, 16u);
-    memset(v56, 0, 16u);
-    memset(v57, 0, 16u);
-    memset(v58, 0, 24u);
-    v325 = 0; v326 = 0; v327 = (u8 *)0; v328 = 0; v329 = 0; v330 = (u8 *)0; v331 = 0; v332 = 0; v333 = 0; v334 = 0; v335 = (u8 *)0; v336 = 0; v337 = 0; v338 = 0; v339 = 0; v340 = (u8 *)0; v341 = 0; v342 = 0; v343 = 0; v344 = 0; v345 = (u8 *)0; v346 = 0; v347 = 0; v348 = 0; v349 = 0; goto v300;
-v117:;
-    memcpy(v53, v27, 16u);
-    memcpy(v54, v28, 16u);
-    memcpy(v55, v29, 16u);
-    memcpy(v56, v30, 16u);
-    memcpy(v57, v31, 16u);
-    memcpy(v58, v32, 24u);
-    v325 = 1; v326 = v324; v327 = v301; v328 = v302; v329 = v303; v330 = v304; v331 = v305; v332 = v306; v333 = v307; v334 = v308; v335 = v309; v336 = v310; v337 = v311; v338 = v312; v339 = v313; v340 = v314; v341 = v315; v342 = v316; v343 = v317; v344 = v318; v345 = v319; v346 = v320; v347 = v321; v348 = v322; v349 = v323;
-v300:;
+    at(ptr, v16) = v4;
+    memset(v16 + 8, 0, 16u);
+    at(ptr, v17) = v461;
+    at(u64, v17 + 8) = v463;
+    at(u32, v17 + 16) = 0;
+    at(u32, v17 + 20) = 0;
+    at(ptr, v17 + 24) = (u8 *)table_18327a07;
+    at(u64, v17 + 32) = 4;
+    at(ptr, v17 + 40) = (u8 *)table_18327a07;
+    at(u64, v17 + 48) = 4;
+    at(u32, v17 + 56) = 1114112u;
+    memset(v17 + 60, 0, 28u);
+    variation_sequences_entries_EntriesIterator_next(v18, v17);
+    if (!(at(u8, v18) == 1)) goto v478;
+    flag v483 = v443 == 1;
+    u8 *v484 = (u8 *)v441;
+    v486 = v4; v489 = 0;
+v485:;
+    u32 v491 = at(u32, v18 + 4);
+    u32 v492 = at(u32, v18 + 8);
+    u8 v493 = at(u8, v18 + 12);
+    u16 v494 = at(u16, v18 + 14);
+    if (!v483) goto v496;
+    if (!(v492 < 1114112u)) { v505 = 0; goto v499; }
+    v505 = at(u16, v448 + (i64)((u64)(v492 << 1))); goto v499;
+v496:;
+    u16 v504 = font_map_mapping_Mapping_glyph(v484, v492);
+    v505 = v504;
+v499:;
+    if (v493 == 0) { v510 = v505; goto v507; }
+    if (v494 < v452) v510 = v494; else { v487 = v486; v490 = v489; goto v488; }
+v507:;
+    if (v510 == 0) { v487 = v486; v490 = v489; goto v488; }
+    if (!(at(u64, v16 + 16) == v489)) { v522 = v486; v523 = v489; goto v516; }
+    if (!std_alloc_vec_Vec_grow_amortized_5986(v16)) goto v519;
+    v522 = at(ptr, v16); v523 = at(u64, v16 + 8); goto v516;
+v519:;
+    if (at(u64, v16 + 16) == 0) goto v535;
+    sys_rattle_dealloc(at(ptr, v16));
+v535:;
+    memset(v21 + 7, 0, 24u);
+    v550 = 0; goto v548;
+v516:;
+    u64 v524 = v523 * 12u;
+    at(u32_1, v522 + v524) = v491;
+    at(u32_1, v522 + v524 + 4) = v492;
+    at(u16_1, v522 + v524 + 8) = v510;
+    at(u16_1, v522 + v524 + 10) = 0;
+    u64 v529 = v523 + 1;
+    at(u64, v16 + 8) = v529;
+    v487 = v522; v490 = v529;
+v488:;
+    variation_sequences_entries_EntriesIterator_next(v18, v17);
+    if (at(u8, v18) == 1) { v486 = v487; v489 = v490; goto v485; }
+    u8 *v538 = at(ptr, v16);
+    flag v540 = at(u64, v16 + 16) == 0;
+    divided_tables_sequence_tables_table_of_a10e(v20, v538, v490);
+    if (v540) goto v459;
+    sys_rattle_dealloc(v538);
+    goto v459;
+v478:;
+    at(u8, v20) = 0;
+    at(ptr, v20 + 8) = v4;
+    memset(v20 + 16, 0, 16u);
+v459:;
+    u8 v544 = at(u8, v20);
+    memcpy(v21 + 7, v20 + 8, 24u);
+    v550 = v544 == 0;
+v548:;
+    if ((v443 != 1) ? 1 : (v450 == 0)) goto v554;
+    sys_rattle_dealloc(v448);
+v554:;
+    memcpy(v78 + 7, v21 + 7, 24u);
+    if (!v550) goto v556;
+    memcpy(v88, v60, 16u);
+    memcpy(v89, v61, 16u);
+    memcpy(v90, v62, 16u);
+    memcpy(v91, v63, 16u);
+    memcpy(v92, v64, 16u);
+    memcpy(v93, v65, 24u);
+    memcpy(v94, v78 + 7, 24u);
+    v593 = 1; v594 = 0; v595 = v1; v596 = 0; v597 = 0; v598 = (u64)v2; v599 = (u64)v394; v600 = v371; v601 = v372; v602 = v373; v603 = v374; v604 = v375; v605 = v376; v606 = v377; v607 = v378; v608 = v379; v609 = v380; v610 = v381; v611 = v382; v612 = v383; v613 = v384; v614 = v385; v615 = v386; v616 = v387; v617 = v388; v618 = v389; v619 = v390; v620 = v391; v621 = v392; v622 = v393; v623 = 1; goto v133;
+v446:;
+v556:;
+    if (!(v394 == 1)) goto v564;
+    at(ptr, v79) = v371;
+    at(u64, v79 + 8) = v372;
+    memcpy(v79 + 16, v60, 16u);
+    at(u64, v79 + 32) = v373;
+    at(ptr, v79 + 40) = v374;
+    at(u64, v79 + 48) = v375;
+    at(u64, v79 + 56) = v376;
+    at(u64, v79 + 64) = v377;
+    memcpy(v79 + 72, v61, 16u);
+    at(u64, v79 + 88) = v378;
+    at(ptr, v79 + 96) = v379;
+    at(u64, v79 + 104) = v380;
+    at(u64, v79 + 112) = v381;
+    at(u64, v79 + 120) = v382;
+    memcpy(v79 + 128, v62, 16u);
+    at(u64, v79 + 144) = v383;
+    at(ptr, v79 + 152) = v384;
+    at(u64, v79 + 160) = v385;
+    at(u64, v79 + 168) = v386;
+    at(u64, v79 + 176) = v387;
+    memcpy(v79 + 184, v63, 16u);
+    at(u64, v79 + 200) = v388;
+    at(ptr, v79 + 208) = v389;
+    at(u64, v79 + 216) = v390;
+    at(u64, v79 + 224) = v391;
+    at(u64, v79 + 232) = v392;
+    memcpy(v79 + 240, v64, 16u);
+    at(u64, v79 + 256) = v393;
+    memcpy(v79 + 264, v65, 24u);
+    font_subset_further_tables_FixedTables_drop(v79);
+v564:;
+    memset(v88, 0, 16u);
+    memset(v89, 0, 16u);
+    memset(v90, 0, 16u);
+    memset(v91, 0, 16u);
+    memset(v92, 0, 16u);
+    memset(v93, 0, 24u);
+    memset(v94, 0, 24u);
+    v593 = 0; v594 = 0; v595 = 0; v596 = 0; v597 = 0; v598 = 0; v599 = 0; v600 = (u8 *)0; v601 = 0; v602 = 0; v603 = (u8 *)0; v604 = 0; v605 = 0; v606 = 0; v607 = 0; v608 = (u8 *)0; v609 = 0; v610 = 0; v611 = 0; v612 = 0; v613 = (u8 *)0; v614 = 0; v615 = 0; v616 = 0; v617 = 0; v618 = (u8 *)0; v619 = 0; v620 = 0; v621 = 0; v622 = 0; v623 = 0; goto v133;
+v396:;
+    memset(v88, 0, 16u);
+    memset(v89, 0, 16u);
+    memset(v90, 0, 16u);
+    memset(v91, 0, 16u);
+    memset(v92, 0, 16u);
+    memset(v93, 0, 24u);
+    memset(v94, 0, 24u);
+    v593 = 0; v594 = 0; v595 = 0; v596 = 0; v597 = 0; v598 = 0; v599 = 0; v600 = (u8 *)0; v601 = 0; v602 = 0; v603 = (u8 *)0; v604 = 0; v605 = 0; v606 = 0; v607 = 0; v608 = (u8 *)0; v609 = 0; v610 = 0; v611 = 0; v612 = 0; v613 = (u8 *)0; v614 = 0; v615 = 0; v616 = 0; v617 = 0; v618 = (u8 *)0; v619 = 0; v620 = 0; v621 = 0; v622 = 0; v623 = 0;
+v133:;
+    memset(v9, 0, 16u);
     memset(v10, 0, 16u);
     memset(v11, 0, 16u);
     memset(v12, 0, 16u);
     memset(v13, 0, 16u);
-    memset(v14, 0, 16u);
+    memset(v14, 0, 24u);
     memset(v15, 0, 24u);
-    if (!v325) { v352 = (u8 *)0; v353 = 0; v354 = 0; v355 = (u8 *)0; v356 = 0; v357 = 0; v358 = 0; v359 = 0; v360 = (u8 *)0; v361 = 0; v362 = 0; v363 = 0; v364 = 0; v365 = (u8 *)0; v366 = 0; v367 = 0; v368 = 0; v369 = 0; v370 = (u8 *)0; v371 = 0; v372 = 0; v373 = 0; v374 = 0; v375 = 0; goto v351; }
-    memcpy(v10, v53, 16u);
-    memcpy(v11, v54, 16u);
-    memcpy(v12, v55, 16u);
-    memcpy(v13, v56, 16u);
-    memcpy(v14, v57, 16u);
-    memcpy(v15, v58, 24u);
-    v352 = v327; v353 = v328; v354 = v329; v355 = v330; v356 = v331; v357 = v332; v358 = v333; v359 = v334; v360 = v335; v361 = v336; v362 = v337; v363 = v338; v364 = v339; v365 = v340; v366 = v341; v367 = v342; v368 = v343; v369 = v344; v370 = v345; v371 = v346; v372 = v347; v373 = v348; v374 = v349; v375 = v326;
-v351:;
-    memcpy(v47, v10, 16u);
-    memcpy(v48, v11, 16u);
-    memcpy(v49, v12, 16u);
-    memcpy(v50, v13, 16u);
-    memcpy(v51, v14, 16u);
-    memcpy(v52, v15, 24u);
-    if (!v325) goto v377;
-    memcpy(v66, v47, 16u);
-    memcpy(v67, v48, 16u);
-    memcpy(v68, v49, 16u);
-    memcpy(v69, v50, 16u);
-    memcpy(v70, v51, 16u);
-    memcpy(v71, v52, 24u);
-    v379 = 1; v380 = 0; v381 = v1; v382 = 0; v383 = 0; v384 = (u64)v2; v385 = v375; v386 = v352; v387 = v353; v388 = v354; v389 = v355; v390 = v356; v391 = v357; v392 = v358; v393 = v359; v394 = v360; v395 = v361; v396 = v362; v397 = v363; v398 = v364; v399 = v365; v400 = v366; v401 = v367; v402 = v368; v403 = v369; v404 = v370; v405 = v371; v406 = v372; v407 = v373; v408 = v374; goto v114;
-v377:;
-    memset(v66, 0, 16u);
-    memset(v67, 0, 16u);
-    memset(v68, 0, 16u);
-    memset(v69, 0, 16u);
-    memset(v70, 0, 16u);
-    memset(v71, 0, 24u);
-    v379 = 0; v380 = 0; v381 = 0; v382 = 0; v383 = 0; v384 = 0; v385 = 0; v386 = (u8 *)0; v387 = 0; v388 = 0; v389 = (u8 *)0; v390 = 0; v391 = 0; v392 = 0; v393 = 0; v394 = (u8 *)0; v395 = 0; v396 = 0; v397 = 0; v398 = 0; v399 = (u8 *)0; v400 = 0; v401 = 0; v402 = 0; v403 = 0; v404 = (u8 *)0; v405 = 0; v406 = 0; v407 = 0; v408 = 0;
-v114:;
-    memset(v4, 0, 16u);
-    memset(v5, 0, 16u);
-    memset(v6, 0, 16u);
-    memset(v7, 0, 16u);
-    memset(v8, 0, 16u);
-    memset(v9, 0, 24u);
-    if (!v379) goto v410;
-    memcpy(v4, v66, 16u);
-    memcpy(v5, v67, 16u);
-    memcpy(v6, v68, 16u);
-    memcpy(v7, v69, 16u);
-    memcpy(v8, v70, 16u);
-    memcpy(v9, v71, 24u);
-    v413 = 0; v414 = v386; v415 = v387; v416 = v388; v417 = v389; v418 = v390; v419 = v391; v420 = v392; v421 = v393; v422 = v394; v423 = v395; v424 = v396; v425 = v397; v426 = v398; v427 = v399; v428 = v400; v429 = v401; v430 = v402; v431 = v403; v432 = v404; v433 = v405; v434 = v406; v435 = v407; v436 = v408; v437 = v384; v438 = 0; v439 = 0; v440 = v385; goto v411;
-v410:;
-    v413 = v383; v414 = (u8 *)0; v415 = 0; v416 = 0; v417 = (u8 *)0; v418 = 0; v419 = 0; v420 = 0; v421 = 0; v422 = (u8 *)0; v423 = 0; v424 = 0; v425 = 0; v426 = 0; v427 = (u8 *)0; v428 = 0; v429 = 0; v430 = 0; v431 = 0; v432 = (u8 *)0; v433 = 0; v434 = 0; v435 = 0; v436 = 0; v437 = v384 & 0xffffffffu; v438 = v380; v439 = v382; v440 = 0;
-v411:;
-    memcpy(v60, v4, 16u);
-    memcpy(v61, v5, 16u);
-    memcpy(v62, v6, 16u);
-    memcpy(v63, v7, 16u);
-    memcpy(v64, v8, 16u);
-    memcpy(v65, v9, 24u);
-    if (!v379) goto v442;
-    at(u8, v59) = v381;
-    at(u64, v59 + 8) = v437;
-    at(u64, v59 + 16) = v440;
-    at(ptr, v59 + 24) = v414;
-    at(u64, v59 + 32) = v415;
-    memcpy(v59 + 40, v60, 16u);
-    at(u64, v59 + 56) = v416;
-    at(ptr, v59 + 64) = v417;
-    at(u64, v59 + 72) = v418;
-    at(u64, v59 + 80) = v419;
-    at(u64, v59 + 88) = v420;
-    memcpy(v59 + 96, v61, 16u);
-    at(u64, v59 + 112) = v421;
-    at(ptr, v59 + 120) = v422;
-    at(u64, v59 + 128) = v423;
-    at(u64, v59 + 136) = v424;
-    at(u64, v59 + 144) = v425;
-    memcpy(v59 + 152, v62, 16u);
-    at(u64, v59 + 168) = v426;
-    at(ptr, v59 + 176) = v427;
-    at(u64, v59 + 184) = v428;
-    at(u64, v59 + 192) = v429;
-    at(u64, v59 + 200) = v430;
-    memcpy(v59 + 208, v63, 16u);
-    at(u64, v59 + 224) = v431;
-    at(ptr, v59 + 232) = v432;
-    at(u64, v59 + 240) = v433;
-    at(u64, v59 + 248) = v434;
-    at(u64, v59 + 256) = v435;
-    memcpy(v59 + 264, v64, 16u);
-    at(u64, v59 + 280) = v436;
-    memcpy(v59 + 288, v65, 24u);
-    divided_tables_all_tables_OpenTables_open(v72, v59);
-    if (!(at(u8, v72) == 1)) goto v477;
-    memcpy(v78, v59 + 24, 288u);
-    memcpy(v79, v72 + 8, 160u);
-    v484 = 0; v485 = 0; v486 = v381; v487 = 0; v488 = 0; v489 = v437; v490 = v437 & 0xffffffff00000000u; v491 = v440; goto v478;
-v477:;
-    at(u8, v75) = v381;
-    at(u64, v75 + 8) = v437;
-    at(u64, v75 + 16) = v440;
-    memcpy(v75 + 24, v59 + 24, 288u);
-    font_subset_further_tables_FurtherTables_drop(v75);
-    memcpy(v78, v73, 288u);
-    memcpy(v79, v74, 160u);
-    v484 = 1; v485 = 1; v486 = 5; v487 = 0; v488 = 0; v489 = 0; v490 = 0; v491 = 0; goto v478;
-v442:;
-    memset(v78, 0, 288u);
-    memset(v79, 0, 160u);
-    v484 = 1; v485 = v438; v486 = v381; v487 = v439; v488 = v413; v489 = v437; v490 = 0; v491 = 0;
-v478:;
-    v492 = v484; v493 = v485; v494 = v486; v495 = v487; v496 = v488; v497 = v489; v498 = v490; v499 = v491;
-v93:;
-    at(u32_1, v0) = v492;
-    at(u32_1, v0 + 4) = v493;
-    at(u8, v0 + 8) = v494;
-    at(u8, v0 + 9) = v495;
-    at(u32_1, v0 + 10) = v496;
-    at(u16_1, v0 + 14) = 0;
-    at(u64_1, v0 + 16) = v498 | (v497 & 0xffffffffu);
-    at(u64_1, v0 + 24) = v499;
-    memcpy(v0 + 32, v78, 288u);
-    memcpy(v0 + 320, v79, 160u);
+    u32 v624 = (u32)v598;
+    if (!v593) { v629 = 0; v630 = 0; v631 = (u8 *)0; v632 = 0; v633 = 0; v634 = (u8 *)0; v635 = 0; v636 = 0; v637 = 0; v638 = 0; v639 = (u8 *)0; v640 = 0; v641 = 0; v642 = 0; v643 = 0; v644 = (u8 *)0; v645 = 0; v646 = 0; v647 = 0; v648 = 0; v649 = (u8 *)0; v650 = 0; v651 = 0; v652 = 0; v653 = 0; v654 = 0; v655 = v594; goto v626; }
+    memcpy(v9, v88, 16u);
+    memcpy(v10, v89, 16u);
+    memcpy(v11, v90, 16u);
+    memcpy(v12, v91, 16u);
+    memcpy(v13, v92, 16u);
+    memcpy(v14, v93, 24u);
+    memcpy(v15, v94, 24u);
+    v629 = (u32)(v598 >> 32u); v630 = v599; v631 = v600; v632 = v601; v633 = v602; v634 = v603; v635 = v604; v636 = v605; v637 = v606; v638 = v607; v639 = v608; v640 = v609; v641 = v610; v642 = v611; v643 = v612; v644 = v613; v645 = v614; v646 = v615; v647 = v616; v648 = v617; v649 = v618; v650 = v619; v651 = v620; v652 = v621; v653 = v622; v654 = v623; v655 = 0;
+v626:;
+    memcpy(v81, v9, 16u);
+    memcpy(v82, v10, 16u);
+    memcpy(v83, v11, 16u);
+    memcpy(v84, v12, 16u);
+    memcpy(v85, v13, 16u);
+    memcpy(v86, v14, 24u);
+    memcpy(v87, v15, 24u);
+    if (!v593) goto v657;
+    at(u8, v80) = v595;
+    at(u8, v80 + 1) = v596;
+    store48(v80 + 2, v597);
+    at(u32, v80 + 8) = v624;
+    at(u32, v80 + 12) = v629;
+    at(u64, v80 + 16) = v630;
+    at(ptr, v80 + 24) = v631;
+    at(u64, v80 + 32) = v632;
+    memcpy(v80 + 40, v81, 16u);
+    at(u64, v80 + 56) = v633;
+    at(ptr, v80 + 64) = v634;
+    at(u64, v80 + 72) = v635;
+    at(u64, v80 + 80) = v636;
+    at(u64, v80 + 88) = v637;
+    memcpy(v80 + 96, v82, 16u);
+    at(u64, v80 + 112) = v638;
+    at(ptr, v80 + 120) = v639;
+    at(u64, v80 + 128) = v640;
+    at(u64, v80 + 136) = v641;
+    at(u64, v80 + 144) = v642;
+    memcpy(v80 + 152, v83, 16u);
+    at(u64, v80 + 168) = v643;
+    at(ptr, v80 + 176) = v644;
+    at(u64, v80 + 184) = v645;
+    at(u64, v80 + 192) = v646;
+    at(u64, v80 + 200) = v647;
+    memcpy(v80 + 208, v84, 16u);
+    at(u64, v80 + 224) = v648;
+    at(ptr, v80 + 232) = v649;
+    at(u64, v80 + 240) = v650;
+    at(u64, v80 + 248) = v651;
+    at(u64, v80 + 256) = v652;
+    memcpy(v80 + 264, v85, 16u);
+    at(u64, v80 + 280) = v653;
+    memcpy(v80 + 288, v86, 24u);
+    at(u64, v80 + 312) = v654;
+    memcpy(v80 + 320, v87, 24u);
+    memset(v5, 0, 80u);
+    at(u64, v8) = 0;
+    flag v694 = v654 == 1;
+    u8 *v695 = at(ptr, v80 + 320);
+    u64 v699 = v694 ? at(u64, v80 + 328) : 0;
+    at(u64, v6) = v654;
+    at(ptr, v6 + 8) = v694 ? v695 : ((u8 *)0);
+    at(u64, v6 + 16) = v699;
+    u8 *v702 = at(ptr, v80 + 8);
+    divided_tables_held_sequences_HeldSequences_open(v5, v6, at(u16, v702 + 64));
+    u32 v708 = (u32)((u64)v702);
+    if (!(at(u8, v5) == 0)) goto v710;
+    u64 v717 = (u64)at(u8, v5 + 16);
+    at(u16, v8) = at(u16, v5 + 8);
+    at(u64, v8 + 8) = v717;
+    memcpy(v8 + 16, v5 + 24, 56u);
+    divided_tables_all_tables_OpenTables_with(v7, v80, v8);
+    u8 v720 = at(u8, v7);
+    memcpy(v95, v7 + 8, 232u);
+    if (!(v720 == 1)) goto v724;
+    memcpy(v97, v80 + 12, 332u);
+    memcpy(v97 + 332, v95, 232u);
+    memcpy(v98, v97, 564u);
+    v746 = 0; v747 = 0; v748 = v595; v749 = v596; v750 = v597; v751 = v708; goto v711;
+v724:;
+    if ((v654 != 1) ? 1 : (at(u64, v80 + 336) == 0)) goto v741;
+    sys_rattle_dealloc(v695);
+v741:;
+    if (!(v630 == 1)) goto v745;
+    font_subset_further_tables_FixedTables_drop(v80 + 24);
+v745:;
+    memcpy(v98, v96, 564u);
+    v746 = 1; v747 = 1; v748 = 5; v749 = 0; v750 = 0; v751 = 0; goto v711;
+v710:;
+    if ((v654 != 1) ? 1 : (at(u64, v80 + 336) == 0)) goto v730;
+    sys_rattle_dealloc(v695);
+v730:;
+    if (!(v630 == 1)) goto v734;
+    font_subset_further_tables_FixedTables_drop(v80 + 24);
+v734:;
+    memset(v98, 0, 564u);
+    v746 = 1; v747 = 0; v748 = 0; v749 = 0; v750 = 0; v751 = 0; goto v711;
+v657:;
+    memset(v98, 0, 564u);
+    v746 = 1; v747 = v655; v748 = v595; v749 = v596; v750 = v597; v751 = v624;
+v711:;
+    v752 = v746; v753 = v747; v754 = v748; v755 = v749; v756 = v750; v757 = v751;
+v111:;
+    at(u32_1, v0) = v752;
+    at(u32_1, v0 + 4) = v753;
+    at(u8, v0 + 8) = v754;
+    at(u8, v0 + 9) = v755;
+    store48(v0 + 10, v756);
+    at(u32_1, v0 + 16) = v757;
+    memcpy(v0 + 20, v98, 564u);
     return;
+}
+
+void font_subset_font_of_kind_FontOfKind_plain(u8 *v0, u8 v1, u8 *v2) {
+    _Alignas(8) u8 v4[24], v5[80], v6[24], v7[40], v8[40], v9[72], v10[64], v12[344], v14[408];
+    _Alignas(2) u8 v11[6], v13[6];
+    u64 v41;
+    memset(v13, 0, 6);
+    memset(v14, 0, 408u);
+    at(u8, v12) = v1;
+    memset(v12 + 1, 0, 7);
+    at(ptr, v12 + 8) = v2;
+    memset(v12 + 16, 0, 328u);
+    u16 v19 = at(u16, v2 + 64);
+    memset(v7, 0, 40u);
+    memset(v8, 0, 40u);
+    divided_tables_metrics_MetricsOpenFrom_open_543f(v7, v12);
+    if (!(at(u8, v7) == 1)) goto v23;
+    divided_tables_metrics_MetricsOpenFrom_open_5adc(v8, v12);
+    if (!(at(u8, v8) == 1)) goto v23;
+    memset(v4, 0, 24u);
+    memset(v5, 0, 80u);
+    memset(v6, 0, 24u);
+    font_subset_further_tables_FurtherTablesTablesBySlot_table_1234(v4, v12, 28u);
+    if (!(at(u8, v4) == 1)) goto v30;
+    u8 *v32 = at(ptr, v4 + 8);
+    u64 v34 = at(u64, v4 + 16);
+    font_subset_further_tables_FurtherTablesTablesBySlot_table_1234(v6, v12, 27u);
+    font_variations_gvar_Variations_open(v5, v32, v34, v6, v19);
+    if (!(at(u8, v5) == 1)) goto v38;
+    memcpy(v9, v5 + 8, 72u);
+    v41 = 1; goto v39;
+v38:;
+    goto v23;
+v30:;
+    memset(v9, 0, 72u);
+    v41 = 0;
+v39:;
+    memcpy(v10, v7 + 8, 32u);
+    memcpy(v10 + 32, v8 + 8, 32u);
+    memset(v11, 0, 6);
+    memcpy(v13, v11, 6);
+    memcpy(v14, v12, 344u);
+    memcpy(v14 + 344, v10, 64u);
+    memcpy(v0, v14, 408u);
+    at(u16_1, v0 + 408) = v19;
+    at(u64_1, v0 + 410) = ((u64)v19) << 48u;
+    memcpy(v0 + 418, v13, 6);
+    memset(v0 + 424, 0, 64u);
+    at(u64_1, v0 + 488) = v41;
+    memcpy(v0 + 496, v9, 72u);
+    at(u16_1, v0 + 568) = v19;
+    memset(v0 + 570, 0, 6);
+    return;
+v23:;
+    memset(v10, 0, 64u);
+    memset(v11, 0, 6);
+    memset(v9, 0, 72u);
+    memcpy(v13, v11, 6);
+    __builtin_trap();
+    __builtin_trap();
 }
 
 void font_subset_font_to_cut_FontToCut_numbers_beside_19bd(u8 *v0, u8 *v1, u8 *v2, u8 *v3) {
@@ -4141,7 +6183,7 @@ void font_subset_font_to_cut_FontToCut_numbers_beside_19bd(u8 *v0, u8 *v1, u8 *v
     u64 v13 = (u64)v12;
     u64 v15 = at(u64_1, v3 + 16);
     flag v19 = v10 == 1;
-    if (!(at(u8, v1 + 472) == 1)) goto v21;
+    if (!(at(u8, v1 + 576) == 1)) goto v21;
     if (!v19) { v546 = (u8 *)0; v547 = 0; v548 = 0; goto v23; }
     memset(v9, 0, 24u);
     u16 v85 = at(u16, at(ptr, v1 + 8) + 64);
@@ -4247,9 +6289,9 @@ v231:;
     at(u64, v6 + 8) = v247;
     u16 v250 = at(u16, v243 + (v247 << 1));
     u64 v251 = (u64)v250;
-    if (!(at(u64, v1 + 488) > v251)) { v246 = v247; v241 = v240; v244 = v243; goto v242; }
-    u8 *v255 = at(ptr, v1 + 480);
-    u8 *v256 = at(ptr, v1 + 504);
+    if (!(at(u64, v1 + 592) > v251)) { v246 = v247; v241 = v240; v244 = v243; goto v242; }
+    u8 *v255 = at(ptr, v1 + 584);
+    u8 *v256 = at(ptr, v1 + 608);
     if (v250 == 0) { v265 = 0; v266 = 0; goto v258; }
     u64 v260 = v251 << 2;
     v265 = v260; v266 = (u64)at(u32, v255 + (i64)v260 - 4);
@@ -4495,302 +6537,634 @@ v26:;
 }
 
 void font_subset_font_to_cut_FontToCut_open_4492(u8 *v0, u8 v1, flag v2, u8 *v3) {
-    _Alignas(4) u8 v5[1], v10[12], v18[16], v23[160], v24[16];
-    _Alignas(8) u8 v6[312], v7[312], v8[32], v9[24], v11[24], v12[304], v13[40], v14[24], v17[160], v19[480], v20[480];
-    _Alignas(2) u8 v15[6], v21[6];
-    u8 v16[295], v22[295], *v110, *v158, *v291, *v329, *v361, *v363, v257, *v159, v367, v371, v372, v373, *v375, *v377, v399, v403, v404, v405, *v407, *v409;
-    u64 v161, v295, v310, v330, v333, v360, v362, v269, v374, v376, v378, v406, v408, v410;
-    u32 v308, v248, v258, v368, v369, v370, v400, v401, v402;
-    u16 v212, v213, v214, v246, v247;
-    memset(v18, 0, 16u);
-    memset(v19, 0, 480u);
-    memset(v20, 0, 480u);
-    memset(v21, 0, 6);
-    memset(v22, 0, 295u);
-    memset(v23, 0, 160u);
-    memset(v24, 0, 16u);
-    if (!v2) goto v26;
-    font_subset_font_of_kind_FontOfKind_open_25ca(v20, v1, v3);
-    if (!(at(u8, v20) == 0)) goto v55;
-    u8 v57 = at(u8, v20 + 8);
-    u8 v59 = at(u8, v20 + 9);
-    memcpy(v15, v20 + 10, 6);
-    u64 v62 = at(u64, v20 + 16);
-    u8 v64 = at(u8, v20 + 24);
-    memcpy(v16, v20 + 25, 295u);
-    memcpy(v17, v20 + 320, 160u);
-    memset(v14, 0, 24u);
-    font_subset_font_of_kind_FontOfKind_further_6e0a(v14, v20 + 8, 19u);
-    u8 *v69 = at(ptr, v14 + 8);
-    u64 v71 = at(u64, v14 + 16);
-    flag v72 = at(u8, v14) != 1;
-    memset(v13, 0, 40u);
-    if (v72 ? 1 : (v71 == 0)) { v360 = 0; v361 = v5; v362 = 0; v363 = v5; goto v75; }
-    font_layout_layout_Layout_open(v13, v69, v71);
-    if (!(at(u8, v13) == 1)) goto v80;
-    u8 *v88 = at(ptr, v13 + 8);
-    u64 v90 = at(u64, v13 + 16);
-    u64 v92 = at(u64, v13 + 24);
-    u32 v94 = at(u32, v13 + 32);
-    u32 v96 = at(u32, v13 + 36);
-    u64 v97 = (u64)v94;
-    if (v94 == 0) { v110 = v5; goto v99; }
-    u64_u64 v103 = sys_rattle_alloc(v97 << 2, 2);
-    if (!(v103._0 & 1)) goto v107;
-    v110 = (u8 *)v103._1;
-v99:;
-    at(ptr, v11) = v110;
-    at(u64, v11 + 8) = 0;
-    at(u64, v11 + 16) = v97;
-    u64 v116 = (u64)bswap16(at(u16_1, v88 + 8));
-    at(ptr, v12) = v88;
-    at(u64, v12 + 8) = v90;
-    at(u64, v12 + 16) = v116;
-    at(u64, v12 + 24) = 0;
-    at(u64, v12 + 32) = v92;
-    at(ptr, v12 + 40) = v88;
-    at(u64, v12 + 48) = v90;
-    memset(v12 + 56, 0, 40u);
-    at(ptr, v12 + 96) = v88;
-    at(u64, v12 + 104) = v90;
-    memset(v12 + 112, 0, 72u);
-    at(ptr, v12 + 184) = v88;
-    at(u64, v12 + 192) = v90;
-    memset(v12 + 200, 0, 48u);
-    at(ptr, v12 + 248) = v88;
-    at(u64, v12 + 256) = v90;
-    at(u64, v12 + 264) = 0;
-    at(u16, v12 + 272) = 3;
-    memset(v12 + 274, 0, 30u);
-    v158 = v110; v161 = 0;
-v157:;
-v163:;
-    memset(v10, 0, 12u);
-    memset(v8, 0, 32u);
-    at(u64, v9) = 0;
-    u64 v164 = at(u64, v12 + 296);
-    if (!(v164 == 0)) goto v167;
-    u64 v219 = at(u64, v12 + 240);
-    if (!(v219 == 0)) goto v222;
-    font_layout_walk_Steps_next_part(v10, v12);
-    if (at(u8, v10) == 1) { v257 = at(u8, v10 + 4); v258 = at(u32_2, v10 + 6); goto v251; }
-    u8 *v276 = at(ptr, v11);
-    u64 v277 = at(u64, v11 + 16);
-    u64 v278 = (u64)v96;
-    flag v279 = v96 == 0;
-    if (v279) { v291 = v5; goto v280; }
-    u64 v282 = v278 << 2;
-    u64_u64 v284 = sys_rattle_alloc(v282, 4);
-    if (!(v284._0 & 1)) goto v288;
-    u8 *v290 = (u8 *)v284._1;
-    memset_any(v290, 0, v282);
-    v291 = v290;
-v280:;
-    flag v292 = v161 == 0;
-    if (v292) goto v293;
-    v295 = 0;
-v294:;
-    u64 v301 = ((u64)at(u16, v276 + (i64)(v295 << 2))) << 2;
-    at(u32, v291 + v301) = at(u32, v291 + v301) + 1;
-    u64 v296 = v295 + 1;
-    if (!(v296 == v161)) { v295 = v296; goto v294; }
-v293:;
-    if (v279) { v329 = v5; v330 = 0; goto v306; }
-    v308 = 0; v310 = 0;
-v307:;
-    u64 v312 = v310 << 2;
-    u32 v314 = at(u32, v291 + (i64)v312);
-    at(u32, v291 + (i64)v312) = v308;
-    u32 v309 = v314 + v308;
-    u64 v311 = v310 + 1;
-    if (!(v311 == v278)) { v308 = v309; v310 = v311; goto v307; }
-    u64 v317 = (u64)v309;
-    if (v309 == 0) { v329 = v5; v330 = 0; goto v306; }
-    u64 v320 = v317 << 1;
-    u64_u64 v322 = sys_rattle_alloc(v320, 2);
-    if (!(v322._0 & 1)) goto v326;
-    u8 *v328 = (u8 *)v322._1;
-    memset_any(v328, 0, v320);
-    v329 = v328; v330 = v317;
-v306:;
-    if (v292) goto v331;
-    v333 = 0;
-v332:;
-    u64 v335 = v333 << 2;
-    u64 v341 = ((u64)at(u16_1, v276 + (i64)v335)) << 2;
-    at(u16, v329 + (((u64)at(u32, v291 + v341)) << 1)) = at(u16_1, v276 + (i64)v335 + 2);
-    at(u32, v291 + v341) = at(u32, v291 + v341) + 1;
-    u64 v334 = v333 + 1;
-    if (!(v334 == v161)) { v333 = v334; goto v332; }
-v331:;
-    if (v277 == 0) { v360 = v330; v361 = v329; v362 = v278; v363 = v291; goto v75; }
-    sys_rattle_dealloc(v276);
-    v360 = v330; v361 = v329; v362 = v278; v363 = v291;
-v75:;
-    memcpy(v21, v15, 6);
-    memcpy(v22, v16, 295u);
-    memcpy(v23, v17, 160u);
-    v367 = v64; v368 = (u32)(v62 >> 32u); v369 = (u32)v62; v370 = 0; v371 = 0; v372 = v57; v373 = v59; v374 = 1; v375 = v363; v376 = v362; v377 = v361; v378 = v360; goto v86;
-v326:;
-    sys_rattle_dealloc(v291);
-v288:;
-    if (v277 == 0) goto v350;
-    sys_rattle_dealloc(v276);
-    goto v350;
-v222:;
-    u64 v224 = at(u64, v12 + 232);
-    u16 v226 = (u16)(at(u16, v12 + 224) + ((u16)v224));
-    u8 *v230 = at(ptr, v12 + 184);
-    u64 v231 = at(u64, v12 + 192);
-    u64 v229 = v224 + ((u64)at(u16, v12 + 228));
-    at(u16, v9) = (u16)at(u8, v12 + 200);
-    at(u16, v9 + 2) = at(u16, v12 + 202);
-    at(u64, v9 + 8) = at(u64, v12 + 208);
-    at(u64, v9 + 16) = at(u64, v12 + 216);
-    font_layout_entry_read_entry(v8, v230, v231, v9, v226, v229);
-    u16 v238 = at(u16, v8 + 2);
-    u64 v239 = at(u64, v8 + 8);
-    u64 v240 = at(u64, v8 + 16);
-    u16 v241 = (u16)at(u8, v8);
-    at(ptr, v12 + 248) = v230;
-    at(u64, v12 + 256) = v231;
-    at(u16, v12 + 264) = v226;
-    memset(v12 + 266, 0, 6);
-    at(u16, v12 + 272) = v241;
-    at(u16, v12 + 274) = v238;
-    at(u32, v12 + 276) = 0;
-    at(u64, v12 + 280) = v239;
-    at(u64, v12 + 288) = 0;
-    at(u64, v12 + 296) = v240;
-    at(u64, v12 + 232) = v224 + 1;
-    at(u64, v12 + 240) = v219 - 1;
-    v246 = 0; v247 = 0; v248 = at(u32, v8 + 24) + 1; goto v218;
-v167:;
-    u8 *v168 = at(ptr, v12 + 248);
-    u64 v169 = at(u64, v12 + 256);
-    u16 v170 = at(u16, v12 + 264);
-    u64 v173 = at(u64, v12 + 280);
-    u64 v174 = at(u64, v12 + 288);
-    switch (at(u8, v12 + 272)) {
-    case 0: v212 = 1; v213 = at(u16, v12 + 274); v214 = v170; goto v176;
-    case 1: goto v177;
-    case 2: goto v178;
-    case 3: goto v179;
+    _Alignas(4) u8 v5[1], v8[12], v14[16], v18[564], v19[16];
+    _Alignas(8) u8 v6[32], v7[24], v9[24], v10[304], v11[40], v12[24], v13[576], v15[584], v16[584];
+    _Alignas(2) u8 v17[10];
+    u8 *v108, *v156, *v289, *v327, *v390, *v392, v255, *v157, v415, v416, v417, *v419, *v421, v442, v443, v444, *v446, *v448;
+    u64 v159, v293, v308, v328, v331, v389, v391, v267, v418, v420, v422, v445, v447, v449;
+    u32 v306, v246, v256, v414, v441;
+    u16 v210, v211, v212, v244, v245;
+    memset(v14, 0, 16u);
+    memset(v15, 0, 584u);
+    memset(v16, 0, 584u);
+    memset(v17, 0, 10u);
+    memset(v18, 0, 564u);
+    memset(v19, 0, 16u);
+    if (!v2) goto v21;
+    font_subset_font_of_kind_FontOfKind_open_f514(v16, v1, v3);
+    if (!(at(u8, v16) == 0)) goto v50;
+    memcpy(v13, v16 + 8, 576u);
+    memset(v12, 0, 24u);
+    font_subset_font_of_kind_FontOfKind_further_6e0a(v12, v16 + 8, 19u);
+    u8 *v54 = at(ptr, v12 + 8);
+    u64 v56 = at(u64, v12 + 16);
+    flag v57 = at(u8, v12) != 1;
+    memset(v11, 0, 40u);
+    if (v57 ? 1 : (v56 == 0)) { v389 = 0; v390 = v5; v391 = 0; v392 = v5; goto v60; }
+    font_layout_layout_Layout_open(v11, v54, v56);
+    if (!(at(u8, v11) == 1)) goto v65;
+    u8 *v86 = at(ptr, v11 + 8);
+    u64 v88 = at(u64, v11 + 16);
+    u64 v90 = at(u64, v11 + 24);
+    u32 v92 = at(u32, v11 + 32);
+    u32 v94 = at(u32, v11 + 36);
+    u64 v95 = (u64)v92;
+    if (v92 == 0) { v108 = v5; goto v97; }
+    u64_u64 v101 = sys_rattle_alloc(v95 << 2, 2);
+    if (!(v101._0 & 1)) goto v105;
+    v108 = (u8 *)v101._1;
+v97:;
+    at(ptr, v9) = v108;
+    at(u64, v9 + 8) = 0;
+    at(u64, v9 + 16) = v95;
+    u64 v114 = (u64)bswap16(at(u16_1, v86 + 8));
+    at(ptr, v10) = v86;
+    at(u64, v10 + 8) = v88;
+    at(u64, v10 + 16) = v114;
+    at(u64, v10 + 24) = 0;
+    at(u64, v10 + 32) = v90;
+    at(ptr, v10 + 40) = v86;
+    at(u64, v10 + 48) = v88;
+    memset(v10 + 56, 0, 40u);
+    at(ptr, v10 + 96) = v86;
+    at(u64, v10 + 104) = v88;
+    memset(v10 + 112, 0, 72u);
+    at(ptr, v10 + 184) = v86;
+    at(u64, v10 + 192) = v88;
+    memset(v10 + 200, 0, 48u);
+    at(ptr, v10 + 248) = v86;
+    at(u64, v10 + 256) = v88;
+    at(u64, v10 + 264) = 0;
+    at(u16, v10 + 272) = 3;
+    memset(v10 + 274, 0, 30u);
+    v156 = v108; v159 = 0;
+v155:;
+v161:;
+    memset(v8, 0, 12u);
+    memset(v6, 0, 32u);
+    at(u64, v7) = 0;
+    u64 v162 = at(u64, v10 + 296);
+    if (!(v162 == 0)) goto v165;
+    u64 v217 = at(u64, v10 + 240);
+    if (!(v217 == 0)) goto v220;
+    font_layout_walk_Steps_next_part(v8, v10);
+    if (at(u8, v8) == 1) { v255 = at(u8, v8 + 4); v256 = at(u32_2, v8 + 6); goto v249; }
+    u8 *v274 = at(ptr, v9);
+    u64 v275 = at(u64, v9 + 16);
+    u64 v276 = (u64)v94;
+    flag v277 = v94 == 0;
+    if (v277) { v289 = v5; goto v278; }
+    u64 v280 = v276 << 2;
+    u64_u64 v282 = sys_rattle_alloc(v280, 4);
+    if (!(v282._0 & 1)) goto v286;
+    u8 *v288 = (u8 *)v282._1;
+    memset_any(v288, 0, v280);
+    v289 = v288;
+v278:;
+    flag v290 = v159 == 0;
+    if (v290) goto v291;
+    v293 = 0;
+v292:;
+    u64 v299 = ((u64)at(u16, v274 + (i64)(v293 << 2))) << 2;
+    at(u32, v289 + v299) = at(u32, v289 + v299) + 1;
+    u64 v294 = v293 + 1;
+    if (!(v294 == v159)) { v293 = v294; goto v292; }
+v291:;
+    if (v277) { v327 = v5; v328 = 0; goto v304; }
+    v306 = 0; v308 = 0;
+v305:;
+    u64 v310 = v308 << 2;
+    u32 v312 = at(u32, v289 + (i64)v310);
+    at(u32, v289 + (i64)v310) = v306;
+    u32 v307 = v312 + v306;
+    u64 v309 = v308 + 1;
+    if (!(v309 == v276)) { v306 = v307; v308 = v309; goto v305; }
+    u64 v315 = (u64)v307;
+    if (v307 == 0) { v327 = v5; v328 = 0; goto v304; }
+    u64 v318 = v315 << 1;
+    u64_u64 v320 = sys_rattle_alloc(v318, 2);
+    if (!(v320._0 & 1)) goto v324;
+    u8 *v326 = (u8 *)v320._1;
+    memset_any(v326, 0, v318);
+    v327 = v326; v328 = v315;
+v304:;
+    if (v290) goto v329;
+    v331 = 0;
+v330:;
+    u64 v333 = v331 << 2;
+    u64 v339 = ((u64)at(u16_1, v274 + (i64)v333)) << 2;
+    at(u16, v327 + (((u64)at(u32, v289 + v339)) << 1)) = at(u16_1, v274 + (i64)v333 + 2);
+    at(u32, v289 + v339) = at(u32, v289 + v339) + 1;
+    u64 v332 = v331 + 1;
+    if (!(v332 == v159)) { v331 = v332; goto v330; }
+v329:;
+    if (v275 == 0) { v389 = v328; v390 = v327; v391 = v276; v392 = v289; goto v60; }
+    sys_rattle_dealloc(v274);
+    v389 = v328; v390 = v327; v391 = v276; v392 = v289;
+v60:;
+    u8 v393 = at(u8, v13);
+    u8 v395 = at(u8, v13 + 1);
+    memcpy(v17, v13 + 2, 10u);
+    memcpy(v18, v13 + 12, 564u);
+    v414 = 0; v415 = 0; v416 = v393; v417 = v395; v418 = 1; v419 = v392; v420 = v391; v421 = v390; v422 = v389; goto v388;
+v324:;
+    sys_rattle_dealloc(v289);
+v286:;
+    if (v275 == 0) goto v348;
+    sys_rattle_dealloc(v274);
+    goto v348;
+v220:;
+    u64 v222 = at(u64, v10 + 232);
+    u16 v224 = (u16)(at(u16, v10 + 224) + ((u16)v222));
+    u8 *v228 = at(ptr, v10 + 184);
+    u64 v229 = at(u64, v10 + 192);
+    u64 v227 = v222 + ((u64)at(u16, v10 + 228));
+    at(u16, v7) = (u16)at(u8, v10 + 200);
+    at(u16, v7 + 2) = at(u16, v10 + 202);
+    at(u64, v7 + 8) = at(u64, v10 + 208);
+    at(u64, v7 + 16) = at(u64, v10 + 216);
+    font_layout_entry_read_entry(v6, v228, v229, v7, v224, v227);
+    u16 v236 = at(u16, v6 + 2);
+    u64 v237 = at(u64, v6 + 8);
+    u64 v238 = at(u64, v6 + 16);
+    u16 v239 = (u16)at(u8, v6);
+    at(ptr, v10 + 248) = v228;
+    at(u64, v10 + 256) = v229;
+    at(u16, v10 + 264) = v224;
+    memset(v10 + 266, 0, 6);
+    at(u16, v10 + 272) = v239;
+    at(u16, v10 + 274) = v236;
+    at(u32, v10 + 276) = 0;
+    at(u64, v10 + 280) = v237;
+    at(u64, v10 + 288) = 0;
+    at(u64, v10 + 296) = v238;
+    at(u64, v10 + 232) = v222 + 1;
+    at(u64, v10 + 240) = v217 - 1;
+    v244 = 0; v245 = 0; v246 = at(u32, v6 + 24) + 1; goto v216;
+v165:;
+    u8 *v166 = at(ptr, v10 + 248);
+    u64 v167 = at(u64, v10 + 256);
+    u16 v168 = at(u16, v10 + 264);
+    u64 v171 = at(u64, v10 + 280);
+    u64 v172 = at(u64, v10 + 288);
+    switch (at(u8, v10 + 272)) {
+    case 0: v210 = 1; v211 = at(u16, v10 + 274); v212 = v168; goto v174;
+    case 1: goto v175;
+    case 2: goto v176;
+    case 3: goto v177;
     default: __builtin_trap();
     }
-v177:;
-    v212 = 1; v213 = bswap16(at(u16_1, (v168 + (i64)v173) + (i64)(v174 << 1))); v214 = v170; goto v176;
-v178:;
-    u16 v189 = at(u16_1, (v168 + (i64)v173 + 2) + (i64)(v174 << 1));
-    if (v189 == 0) { v212 = 0; v213 = 0; v214 = 0; goto v176; }
-    u64 v194 = v173 + ((u64)bswap16(v189));
-    if (v169 < 4) { v212 = 2; v213 = 0; v214 = 0; goto v176; }
-    u64 v197 = v169 - 4;
-    if (v197 < v194) { v212 = 2; v213 = 0; v214 = 0; goto v176; }
-    if ((v197 - v194) < (usub_sat64((u64)bswap16(at(u16_1, v168 + (i64)v194 + 2)), 1) << 1)) { v212 = 2; v213 = 0; v214 = 0; goto v176; }
-    v212 = 1; v213 = bswap16(at(u16_1, v168 + (i64)v194)); v214 = v170; goto v176;
-v179:;
-    v212 = 2; v213 = 0; v214 = 0;
+v175:;
+    v210 = 1; v211 = bswap16(at(u16_1, (v166 + (i64)v171) + (i64)(v172 << 1))); v212 = v168; goto v174;
 v176:;
-    at(u64, v12 + 288) = v174 + 1;
-    at(u64, v12 + 296) = v164 - 1;
-    v246 = v214; v247 = v212; v248 = (u32)v213;
-v218:;
-    at(u32, v10) = 1;
-    at(u16, v10 + 4) = v247;
-    at(u16, v10 + 6) = v246;
-    at(u32, v10 + 8) = v248;
-    v257 = (u8)v247; v258 = at(u32_2, v10 + 6);
-v251:;
-    if (!(v257 == 1)) goto v163;
-    if (!(at(u64, v11 + 16) == v161)) { v159 = v158; v269 = v161; goto v160; }
-    if (!std_alloc_vec_Vec_grow_amortized_23b5(v11)) goto v266;
-    v159 = at(ptr, v11); v269 = at(u64, v11 + 8); goto v160;
-v266:;
-    if (at(u64, v11 + 16) == 0) goto v107;
-    sys_rattle_dealloc(at(ptr, v11));
-    goto v107;
-v160:;
-    at(u32_1, v159 + (v269 << 2)) = v258;
-    u64 v162 = v269 + 1;
-    at(u64, v11 + 8) = v162;
-    v158 = v159; v161 = v162; goto v157;
-v107:;
-v350:;
-    at(u64, v7) = 0;
-    at(u8, v7) = v57;
-    at(u64, v7 + 8) = v62;
-    at(u64, v7 + 16) = (u64)v64;
-    memcpy(v7 + 24, v16 + 7, 288u);
-    font_subset_further_tables_FurtherTables_drop(v7);
-    memset(v21, 0, 6);
-    memset(v22, 0, 295u);
-    memset(v23, 0, 160u);
-    v367 = 0; v368 = 0; v369 = 0; v370 = 1; v371 = 0; v372 = 0; v373 = 0; v374 = 0; v375 = (u8 *)0; v376 = 0; v377 = (u8 *)0; v378 = 0; goto v86;
-v80:;
-    at(u64, v6) = 0;
-    at(u8, v6) = v57;
-    at(u64, v6 + 8) = v62;
-    at(u64, v6 + 16) = (u64)v64;
-    memcpy(v6 + 24, v20 + 32, 288u);
-    font_subset_further_tables_FurtherTables_drop(v6);
-    memset(v21, 0, 6);
-    memset(v22, 0, 295u);
-    memset(v23, 0, 160u);
-    v367 = 0; v368 = 0; v369 = 0; v370 = 1; v371 = 1; v372 = 4; v373 = 0; v374 = 0; v375 = (u8 *)0; v376 = 0; v377 = (u8 *)0; v378 = 0;
-v86:;
-    v399 = v367; v400 = v368; v401 = v369; v402 = v370; v403 = v371; v404 = v372; v405 = v373; v406 = v374; v407 = v375; v408 = v376; v409 = v377; v410 = v378; goto v379;
-v55:;
-    at(u32, v18) = (u32)at(u8, v20 + 4);
-    at(u8, v18 + 4) = at(u8, v20 + 8);
-    at(u8, v18 + 5) = at(u8, v20 + 9);
-    memcpy(v18 + 6, v20 + 10, 10u);
-    font_subset_font_to_cut_closing_refusal(v24, v3, v18);
-    u8 v391 = at(u8, v24);
-    u8 v393 = at(u8, v24 + 4);
-    u8 v395 = at(u8, v24 + 5);
-    memcpy(v21, v24 + 6, 6);
-    v399 = 0; v400 = 0; v401 = at(u32, v24 + 12); v402 = 1; v403 = v391; v404 = v393; v405 = v395; v406 = 0; v407 = (u8 *)0; v408 = 0; v409 = (u8 *)0; v410 = 0;
-v379:;
-    at(u32_1, v0) = v402;
-    at(u32_1, v0 + 4) = (u32)v403;
-    at(u8, v0 + 8) = v404;
-    at(u8, v0 + 9) = v405;
-    memcpy(v0 + 10, v21, 6);
-    at(u32_1, v0 + 16) = v401;
-    at(u32_1, v0 + 20) = v400;
-    at(u8, v0 + 24) = v399;
-    memcpy(v0 + 25, v22, 295u);
-    memcpy(v0 + 320, v23, 160u);
-    at(u64_1, v0 + 480) = v406;
-    at(ptr_1, v0 + 488) = v407;
-    at(u64_1, v0 + 496) = v408;
-    at(u64_1, v0 + 504) = v408;
-    at(ptr_1, v0 + 512) = v409;
-    at(u64_1, v0 + 520) = v410;
-    at(u64_1, v0 + 528) = v410;
+    u16 v187 = at(u16_1, (v166 + (i64)v171 + 2) + (i64)(v172 << 1));
+    if (v187 == 0) { v210 = 0; v211 = 0; v212 = 0; goto v174; }
+    u64 v192 = v171 + ((u64)bswap16(v187));
+    if (v167 < 4) { v210 = 2; v211 = 0; v212 = 0; goto v174; }
+    u64 v195 = v167 - 4;
+    if (v195 < v192) { v210 = 2; v211 = 0; v212 = 0; goto v174; }
+    if ((v195 - v192) < (usub_sat64((u64)bswap16(at(u16_1, v166 + (i64)v192 + 2)), 1) << 1)) { v210 = 2; v211 = 0; v212 = 0; goto v174; }
+    v210 = 1; v211 = bswap16(at(u16_1, v166 + (i64)v192)); v212 = v168; goto v174;
+v177:;
+    v210 = 2; v211 = 0; v212 = 0;
+v174:;
+    at(u64, v10 + 288) = v172 + 1;
+    at(u64, v10 + 296) = v162 - 1;
+    v244 = v212; v245 = v210; v246 = (u32)v211;
+v216:;
+    at(u32, v8) = 1;
+    at(u16, v8 + 4) = v245;
+    at(u16, v8 + 6) = v244;
+    at(u32, v8 + 8) = v246;
+    v255 = (u8)v245; v256 = at(u32_2, v8 + 6);
+v249:;
+    if (!(v255 == 1)) goto v161;
+    if (!(at(u64, v9 + 16) == v159)) { v157 = v156; v267 = v159; goto v158; }
+    if (!std_alloc_vec_Vec_grow_amortized_23b5(v9)) goto v264;
+    v157 = at(ptr, v9); v267 = at(u64, v9 + 8); goto v158;
+v264:;
+    if (at(u64, v9 + 16) == 0) goto v105;
+    sys_rattle_dealloc(at(ptr, v9));
+    goto v105;
+v158:;
+    at(u32_1, v157 + (v267 << 2)) = v256;
+    u64 v160 = v267 + 1;
+    at(u64, v9 + 8) = v160;
+    v156 = v157; v159 = v160; goto v155;
+v105:;
+v348:;
+    u8 v354 = at(u8, v13 + 16);
+    u8 v356 = at(u8, v13 + 312);
+    u8 *v358 = at(ptr, v13 + 320);
+    u64 v360 = at(u64, v13 + 336);
+    u8 *v364 = at(ptr, v13 + 440);
+    u8 *v366 = at(ptr, v13 + 464);
+    u64 v368 = at(u64, v13 + 480);
+    if (!(at(u8, v13 + 424) == 1)) goto v371;
+    if (at(u64, v13 + 456) == 0) goto v375;
+    sys_rattle_dealloc(v364);
+v375:;
+    if (v368 == 0) goto v371;
+    sys_rattle_dealloc(v366);
+v371:;
+    if ((v356 != 1) ? 1 : (v360 == 0)) goto v383;
+    sys_rattle_dealloc(v358);
+v383:;
+    if (!(v354 == 1)) goto v387;
+    font_subset_further_tables_FixedTables_drop(v13 + 24);
+v387:;
+    memset(v17, 0, 10u);
+    memset(v18, 0, 564u);
+    v414 = 1; v415 = 0; v416 = 0; v417 = 0; v418 = 0; v419 = (u8 *)0; v420 = 0; v421 = (u8 *)0; v422 = 0; goto v388;
+v65:;
+    u8 v67 = at(u8, v13 + 16);
+    u8 v69 = at(u8, v13 + 312);
+    u8 *v71 = at(ptr, v13 + 320);
+    u64 v73 = at(u64, v13 + 336);
+    u8 *v77 = at(ptr, v13 + 440);
+    u8 *v79 = at(ptr, v13 + 464);
+    u64 v81 = at(u64, v13 + 480);
+    if (!(at(u8, v13 + 424) == 1)) goto v84;
+    if (at(u64, v13 + 456) == 0) goto v401;
+    sys_rattle_dealloc(v77);
+v401:;
+    if (v81 == 0) goto v84;
+    sys_rattle_dealloc(v79);
+v84:;
+    if ((v69 != 1) ? 1 : (v73 == 0)) goto v409;
+    sys_rattle_dealloc(v71);
+v409:;
+    if (!(v67 == 1)) goto v413;
+    font_subset_further_tables_FixedTables_drop(v13 + 24);
+v413:;
+    memset(v17, 0, 10u);
+    memset(v18, 0, 564u);
+    v414 = 1; v415 = 1; v416 = 4; v417 = 0; v418 = 0; v419 = (u8 *)0; v420 = 0; v421 = (u8 *)0; v422 = 0;
+v388:;
+    v441 = v414; v442 = v415; v443 = v416; v444 = v417; v445 = v418; v446 = v419; v447 = v420; v448 = v421; v449 = v422; goto v423;
+v50:;
+    at(u32, v14) = (u32)at(u8, v16 + 4);
+    at(u8, v14 + 4) = at(u8, v16 + 8);
+    at(u8, v14 + 5) = at(u8, v16 + 9);
+    memcpy(v14 + 6, v16 + 10, 10u);
+    font_subset_font_to_cut_closing_refusal(v19, v3, v14);
+    u8 v435 = at(u8, v19);
+    u8 v437 = at(u8, v19 + 4);
+    u8 v439 = at(u8, v19 + 5);
+    memcpy(v17, v19 + 6, 10u);
+    v441 = 1; v442 = v435; v443 = v437; v444 = v439; v445 = 0; v446 = (u8 *)0; v447 = 0; v448 = (u8 *)0; v449 = 0;
+v423:;
+    at(u32_1, v0) = v441;
+    at(u32_1, v0 + 4) = (u32)v442;
+    at(u8, v0 + 8) = v443;
+    at(u8, v0 + 9) = v444;
+    memcpy(v0 + 10, v17, 10u);
+    memcpy(v0 + 20, v18, 564u);
+    at(u64_1, v0 + 584) = v445;
+    at(ptr_1, v0 + 592) = v446;
+    at(u64_1, v0 + 600) = v447;
+    at(u64_1, v0 + 608) = v447;
+    at(ptr_1, v0 + 616) = v448;
+    at(u64_1, v0 + 624) = v449;
+    at(u64_1, v0 + 632) = v449;
     return;
-v26:;
-    font_subset_font_of_kind_FontOfKind_open_25ca(v19, v1, v3);
-    u8 v29 = at(u8, v19 + 8);
-    u8 v31 = at(u8, v19 + 9);
-    if (!(at(u8, v19) == 0)) goto v35;
+v21:;
+    font_subset_font_of_kind_FontOfKind_open_f514(v15, v1, v3);
+    u8 v24 = at(u8, v15 + 8);
+    u8 v26 = at(u8, v15 + 9);
+    if (!(at(u8, v15) == 0)) goto v30;
     at(u32_1, v0) = 0;
     at(u32_1, v0 + 4) = 0;
-    at(u8, v0 + 8) = v29;
-    at(u8, v0 + 9) = v31;
-    memcpy(v0 + 10, v19 + 10, 10u);
-    memcpy(v0 + 20, v19 + 20, 460u);
-    memset(v0 + 480, 0, 56u);
+    at(u8, v0 + 8) = v24;
+    at(u8, v0 + 9) = v26;
+    memcpy(v0 + 10, v15 + 10, 10u);
+    memcpy(v0 + 20, v15 + 20, 564u);
+    memset(v0 + 584, 0, 56u);
     return;
-v35:;
-    u32 v46 = (u32)at(u8, v19 + 4);
+v30:;
+    u32 v41 = (u32)at(u8, v15 + 4);
     at(u32_1, v0) = 1;
-    at(u32_1, v0 + 4) = v46;
-    at(u8, v0 + 8) = v29;
-    at(u8, v0 + 9) = v31;
-    memcpy(v0 + 10, v19 + 10, 10u);
-    memset(v0 + 20, 0, 516u);
+    at(u32_1, v0 + 4) = v41;
+    at(u8, v0 + 8) = v24;
+    at(u8, v0 + 9) = v26;
+    memcpy(v0 + 10, v15 + 10, 10u);
+    memset(v0 + 20, 0, 620u);
+    return;
+}
+
+void font_subset_font_to_cut_FontToCut_open_fdfe(u8 *v0, u8 v1, flag v2, u8 *v3) {
+    _Alignas(4) u8 v5[1], v8[12], v14[16], v18[564], v19[16];
+    _Alignas(8) u8 v6[32], v7[24], v9[24], v10[304], v11[40], v12[24], v13[576], v15[584], v16[584];
+    _Alignas(2) u8 v17[10];
+    u8 *v108, *v156, *v289, *v327, *v390, *v392, v255, *v157, v415, v416, v417, *v419, *v421, v442, v443, v444, *v446, *v448;
+    u64 v159, v293, v308, v328, v331, v389, v391, v267, v418, v420, v422, v445, v447, v449;
+    u32 v306, v246, v256, v414, v441;
+    u16 v210, v211, v212, v244, v245;
+    memset(v14, 0, 16u);
+    memset(v15, 0, 584u);
+    memset(v16, 0, 584u);
+    memset(v17, 0, 10u);
+    memset(v18, 0, 564u);
+    memset(v19, 0, 16u);
+    if (!v2) goto v21;
+    font_subset_font_of_kind_FontOfKind_open_25ca(v16, v1, v3);
+    if (!(at(u8, v16) == 0)) goto v50;
+    memcpy(v13, v16 + 8, 576u);
+    memset(v12, 0, 24u);
+    font_subset_font_of_kind_FontOfKind_further_6e0a(v12, v16 + 8, 19u);
+    u8 *v54 = at(ptr, v12 + 8);
+    u64 v56 = at(u64, v12 + 16);
+    flag v57 = at(u8, v12) != 1;
+    memset(v11, 0, 40u);
+    if (v57 ? 1 : (v56 == 0)) { v389 = 0; v390 = v5; v391 = 0; v392 = v5; goto v60; }
+    font_layout_layout_Layout_open(v11, v54, v56);
+    if (!(at(u8, v11) == 1)) goto v65;
+    u8 *v86 = at(ptr, v11 + 8);
+    u64 v88 = at(u64, v11 + 16);
+    u64 v90 = at(u64, v11 + 24);
+    u32 v92 = at(u32, v11 + 32);
+    u32 v94 = at(u32, v11 + 36);
+    u64 v95 = (u64)v92;
+    if (v92 == 0) { v108 = v5; goto v97; }
+    u64_u64 v101 = sys_rattle_alloc(v95 << 2, 2);
+    if (!(v101._0 & 1)) goto v105;
+    v108 = (u8 *)v101._1;
+v97:;
+    at(ptr, v9) = v108;
+    at(u64, v9 + 8) = 0;
+    at(u64, v9 + 16) = v95;
+    u64 v114 = (u64)bswap16(at(u16_1, v86 + 8));
+    at(ptr, v10) = v86;
+    at(u64, v10 + 8) = v88;
+    at(u64, v10 + 16) = v114;
+    at(u64, v10 + 24) = 0;
+    at(u64, v10 + 32) = v90;
+    at(ptr, v10 + 40) = v86;
+    at(u64, v10 + 48) = v88;
+    memset(v10 + 56, 0, 40u);
+    at(ptr, v10 + 96) = v86;
+    at(u64, v10 + 104) = v88;
+    memset(v10 + 112, 0, 72u);
+    at(ptr, v10 + 184) = v86;
+    at(u64, v10 + 192) = v88;
+    memset(v10 + 200, 0, 48u);
+    at(ptr, v10 + 248) = v86;
+    at(u64, v10 + 256) = v88;
+    at(u64, v10 + 264) = 0;
+    at(u16, v10 + 272) = 3;
+    memset(v10 + 274, 0, 30u);
+    v156 = v108; v159 = 0;
+v155:;
+v161:;
+    memset(v8, 0, 12u);
+    memset(v6, 0, 32u);
+    at(u64, v7) = 0;
+    u64 v162 = at(u64, v10 + 296);
+    if (!(v162 == 0)) goto v165;
+    u64 v217 = at(u64, v10 + 240);
+    if (!(v217 == 0)) goto v220;
+    font_layout_walk_Steps_next_part(v8, v10);
+    if (at(u8, v8) == 1) { v255 = at(u8, v8 + 4); v256 = at(u32_2, v8 + 6); goto v249; }
+    u8 *v274 = at(ptr, v9);
+    u64 v275 = at(u64, v9 + 16);
+    u64 v276 = (u64)v94;
+    flag v277 = v94 == 0;
+    if (v277) { v289 = v5; goto v278; }
+    u64 v280 = v276 << 2;
+    u64_u64 v282 = sys_rattle_alloc(v280, 4);
+    if (!(v282._0 & 1)) goto v286;
+    u8 *v288 = (u8 *)v282._1;
+    memset_any(v288, 0, v280);
+    v289 = v288;
+v278:;
+    flag v290 = v159 == 0;
+    if (v290) goto v291;
+    v293 = 0;
+v292:;
+    u64 v299 = ((u64)at(u16, v274 + (i64)(v293 << 2))) << 2;
+    at(u32, v289 + v299) = at(u32, v289 + v299) + 1;
+    u64 v294 = v293 + 1;
+    if (!(v294 == v159)) { v293 = v294; goto v292; }
+v291:;
+    if (v277) { v327 = v5; v328 = 0; goto v304; }
+    v306 = 0; v308 = 0;
+v305:;
+    u64 v310 = v308 << 2;
+    u32 v312 = at(u32, v289 + (i64)v310);
+    at(u32, v289 + (i64)v310) = v306;
+    u32 v307 = v312 + v306;
+    u64 v309 = v308 + 1;
+    if (!(v309 == v276)) { v306 = v307; v308 = v309; goto v305; }
+    u64 v315 = (u64)v307;
+    if (v307 == 0) { v327 = v5; v328 = 0; goto v304; }
+    u64 v318 = v315 << 1;
+    u64_u64 v320 = sys_rattle_alloc(v318, 2);
+    if (!(v320._0 & 1)) goto v324;
+    u8 *v326 = (u8 *)v320._1;
+    memset_any(v326, 0, v318);
+    v327 = v326; v328 = v315;
+v304:;
+    if (v290) goto v329;
+    v331 = 0;
+v330:;
+    u64 v333 = v331 << 2;
+    u64 v339 = ((u64)at(u16_1, v274 + (i64)v333)) << 2;
+    at(u16, v327 + (((u64)at(u32, v289 + v339)) << 1)) = at(u16_1, v274 + (i64)v333 + 2);
+    at(u32, v289 + v339) = at(u32, v289 + v339) + 1;
+    u64 v332 = v331 + 1;
+    if (!(v332 == v159)) { v331 = v332; goto v330; }
+v329:;
+    if (v275 == 0) { v389 = v328; v390 = v327; v391 = v276; v392 = v289; goto v60; }
+    sys_rattle_dealloc(v274);
+    v389 = v328; v390 = v327; v391 = v276; v392 = v289;
+v60:;
+    u8 v393 = at(u8, v13);
+    u8 v395 = at(u8, v13 + 1);
+    memcpy(v17, v13 + 2, 10u);
+    memcpy(v18, v13 + 12, 564u);
+    v414 = 0; v415 = 0; v416 = v393; v417 = v395; v418 = 1; v419 = v392; v420 = v391; v421 = v390; v422 = v389; goto v388;
+v324:;
+    sys_rattle_dealloc(v289);
+v286:;
+    if (v275 == 0) goto v348;
+    sys_rattle_dealloc(v274);
+    goto v348;
+v220:;
+    u64 v222 = at(u64, v10 + 232);
+    u16 v224 = (u16)(at(u16, v10 + 224) + ((u16)v222));
+    u8 *v228 = at(ptr, v10 + 184);
+    u64 v229 = at(u64, v10 + 192);
+    u64 v227 = v222 + ((u64)at(u16, v10 + 228));
+    at(u16, v7) = (u16)at(u8, v10 + 200);
+    at(u16, v7 + 2) = at(u16, v10 + 202);
+    at(u64, v7 + 8) = at(u64, v10 + 208);
+    at(u64, v7 + 16) = at(u64, v10 + 216);
+    font_layout_entry_read_entry(v6, v228, v229, v7, v224, v227);
+    u16 v236 = at(u16, v6 + 2);
+    u64 v237 = at(u64, v6 + 8);
+    u64 v238 = at(u64, v6 + 16);
+    u16 v239 = (u16)at(u8, v6);
+    at(ptr, v10 + 248) = v228;
+    at(u64, v10 + 256) = v229;
+    at(u16, v10 + 264) = v224;
+    memset(v10 + 266, 0, 6);
+    at(u16, v10 + 272) = v239;
+    at(u16, v10 + 274) = v236;
+    at(u32, v10 + 276) = 0;
+    at(u64, v10 + 280) = v237;
+    at(u64, v10 + 288) = 0;
+    at(u64, v10 + 296) = v238;
+    at(u64, v10 + 232) = v222 + 1;
+    at(u64, v10 + 240) = v217 - 1;
+    v244 = 0; v245 = 0; v246 = at(u32, v6 + 24) + 1; goto v216;
+v165:;
+    u8 *v166 = at(ptr, v10 + 248);
+    u64 v167 = at(u64, v10 + 256);
+    u16 v168 = at(u16, v10 + 264);
+    u64 v171 = at(u64, v10 + 280);
+    u64 v172 = at(u64, v10 + 288);
+    switch (at(u8, v10 + 272)) {
+    case 0: v210 = 1; v211 = at(u16, v10 + 274); v212 = v168; goto v174;
+    case 1: goto v175;
+    case 2: goto v176;
+    case 3: goto v177;
+    default: __builtin_trap();
+    }
+v175:;
+    v210 = 1; v211 = bswap16(at(u16_1, (v166 + (i64)v171) + (i64)(v172 << 1))); v212 = v168; goto v174;
+v176:;
+    u16 v187 = at(u16_1, (v166 + (i64)v171 + 2) + (i64)(v172 << 1));
+    if (v187 == 0) { v210 = 0; v211 = 0; v212 = 0; goto v174; }
+    u64 v192 = v171 + ((u64)bswap16(v187));
+    if (v167 < 4) { v210 = 2; v211 = 0; v212 = 0; goto v174; }
+    u64 v195 = v167 - 4;
+    if (v195 < v192) { v210 = 2; v211 = 0; v212 = 0; goto v174; }
+    if ((v195 - v192) < (usub_sat64((u64)bswap16(at(u16_1, v166 + (i64)v192 + 2)), 1) << 1)) { v210 = 2; v211 = 0; v212 = 0; goto v174; }
+    v210 = 1; v211 = bswap16(at(u16_1, v166 + (i64)v192)); v212 = v168; goto v174;
+v177:;
+    v210 = 2; v211 = 0; v212 = 0;
+v174:;
+    at(u64, v10 + 288) = v172 + 1;
+    at(u64, v10 + 296) = v162 - 1;
+    v244 = v212; v245 = v210; v246 = (u32)v211;
+v216:;
+    at(u32, v8) = 1;
+    at(u16, v8 + 4) = v245;
+    at(u16, v8 + 6) = v244;
+    at(u32, v8 + 8) = v246;
+    v255 = (u8)v245; v256 = at(u32_2, v8 + 6);
+v249:;
+    if (!(v255 == 1)) goto v161;
+    if (!(at(u64, v9 + 16) == v159)) { v157 = v156; v267 = v159; goto v158; }
+    if (!std_alloc_vec_Vec_grow_amortized_23b5(v9)) goto v264;
+    v157 = at(ptr, v9); v267 = at(u64, v9 + 8); goto v158;
+v264:;
+    if (at(u64, v9 + 16) == 0) goto v105;
+    sys_rattle_dealloc(at(ptr, v9));
+    goto v105;
+v158:;
+    at(u32_1, v157 + (v267 << 2)) = v256;
+    u64 v160 = v267 + 1;
+    at(u64, v9 + 8) = v160;
+    v156 = v157; v159 = v160; goto v155;
+v105:;
+v348:;
+    u8 v354 = at(u8, v13 + 16);
+    u8 v356 = at(u8, v13 + 312);
+    u8 *v358 = at(ptr, v13 + 320);
+    u64 v360 = at(u64, v13 + 336);
+    u8 *v364 = at(ptr, v13 + 440);
+    u8 *v366 = at(ptr, v13 + 464);
+    u64 v368 = at(u64, v13 + 480);
+    if (!(at(u8, v13 + 424) == 1)) goto v371;
+    if (at(u64, v13 + 456) == 0) goto v375;
+    sys_rattle_dealloc(v364);
+v375:;
+    if (v368 == 0) goto v371;
+    sys_rattle_dealloc(v366);
+v371:;
+    if ((v356 != 1) ? 1 : (v360 == 0)) goto v383;
+    sys_rattle_dealloc(v358);
+v383:;
+    if (!(v354 == 1)) goto v387;
+    font_subset_further_tables_FixedTables_drop(v13 + 24);
+v387:;
+    memset(v17, 0, 10u);
+    memset(v18, 0, 564u);
+    v414 = 1; v415 = 0; v416 = 0; v417 = 0; v418 = 0; v419 = (u8 *)0; v420 = 0; v421 = (u8 *)0; v422 = 0; goto v388;
+v65:;
+    u8 v67 = at(u8, v13 + 16);
+    u8 v69 = at(u8, v13 + 312);
+    u8 *v71 = at(ptr, v13 + 320);
+    u64 v73 = at(u64, v13 + 336);
+    u8 *v77 = at(ptr, v13 + 440);
+    u8 *v79 = at(ptr, v13 + 464);
+    u64 v81 = at(u64, v13 + 480);
+    if (!(at(u8, v13 + 424) == 1)) goto v84;
+    if (at(u64, v13 + 456) == 0) goto v401;
+    sys_rattle_dealloc(v77);
+v401:;
+    if (v81 == 0) goto v84;
+    sys_rattle_dealloc(v79);
+v84:;
+    if ((v69 != 1) ? 1 : (v73 == 0)) goto v409;
+    sys_rattle_dealloc(v71);
+v409:;
+    if (!(v67 == 1)) goto v413;
+    font_subset_further_tables_FixedTables_drop(v13 + 24);
+v413:;
+    memset(v17, 0, 10u);
+    memset(v18, 0, 564u);
+    v414 = 1; v415 = 1; v416 = 4; v417 = 0; v418 = 0; v419 = (u8 *)0; v420 = 0; v421 = (u8 *)0; v422 = 0;
+v388:;
+    v441 = v414; v442 = v415; v443 = v416; v444 = v417; v445 = v418; v446 = v419; v447 = v420; v448 = v421; v449 = v422; goto v423;
+v50:;
+    at(u32, v14) = (u32)at(u8, v16 + 4);
+    at(u8, v14 + 4) = at(u8, v16 + 8);
+    at(u8, v14 + 5) = at(u8, v16 + 9);
+    memcpy(v14 + 6, v16 + 10, 10u);
+    font_subset_font_to_cut_closing_refusal(v19, v3, v14);
+    u8 v435 = at(u8, v19);
+    u8 v437 = at(u8, v19 + 4);
+    u8 v439 = at(u8, v19 + 5);
+    memcpy(v17, v19 + 6, 10u);
+    v441 = 1; v442 = v435; v443 = v437; v444 = v439; v445 = 0; v446 = (u8 *)0; v447 = 0; v448 = (u8 *)0; v449 = 0;
+v423:;
+    at(u32_1, v0) = v441;
+    at(u32_1, v0 + 4) = (u32)v442;
+    at(u8, v0 + 8) = v443;
+    at(u8, v0 + 9) = v444;
+    memcpy(v0 + 10, v17, 10u);
+    memcpy(v0 + 20, v18, 564u);
+    at(u64_1, v0 + 584) = v445;
+    at(ptr_1, v0 + 592) = v446;
+    at(u64_1, v0 + 600) = v447;
+    at(u64_1, v0 + 608) = v447;
+    at(ptr_1, v0 + 616) = v448;
+    at(u64_1, v0 + 624) = v449;
+    at(u64_1, v0 + 632) = v449;
+    return;
+v21:;
+    font_subset_font_of_kind_FontOfKind_open_25ca(v15, v1, v3);
+    u8 v24 = at(u8, v15 + 8);
+    u8 v26 = at(u8, v15 + 9);
+    if (!(at(u8, v15) == 0)) goto v30;
+    at(u32_1, v0) = 0;
+    at(u32_1, v0 + 4) = 0;
+    at(u8, v0 + 8) = v24;
+    at(u8, v0 + 9) = v26;
+    memcpy(v0 + 10, v15 + 10, 10u);
+    memcpy(v0 + 20, v15 + 20, 564u);
+    memset(v0 + 584, 0, 56u);
+    return;
+v30:;
+    u32 v41 = (u32)at(u8, v15 + 4);
+    at(u32_1, v0) = 1;
+    at(u32_1, v0 + 4) = v41;
+    at(u8, v0 + 8) = v24;
+    at(u8, v0 + 9) = v26;
+    memcpy(v0 + 10, v15 + 10, 10u);
+    memset(v0 + 20, 0, 620u);
     return;
 }
 
@@ -4956,6 +7330,36 @@ v20:;
     return;
 }
 
+void font_subset_further_tables_FixedTables_drop(u8 *v0) {
+    u8 v3 = at(u8, v0 + 32);
+    u8 *v5 = at(ptr_1, v0 + 40);
+    u64 v7 = at(u64_1, v0 + 56);
+    u8 v9 = at(u8, v0 + 88);
+    u8 *v11 = at(ptr_1, v0 + 96);
+    u64 v13 = at(u64_1, v0 + 112);
+    u8 v15 = at(u8, v0 + 144);
+    u8 *v17 = at(ptr_1, v0 + 152);
+    u64 v19 = at(u64_1, v0 + 168);
+    u8 v21 = at(u8, v0 + 200);
+    u8 *v23 = at(ptr_1, v0 + 208);
+    u64 v25 = at(u64_1, v0 + 224);
+    if ((at(u8, v0 + 256) != 1) ? 1 : (at(u64_1, v0 + 280) == 0)) goto v33;
+    sys_rattle_dealloc(at(ptr_1, v0 + 264));
+v33:;
+    if ((v21 != 1) ? 1 : (v25 == 0)) goto v40;
+    sys_rattle_dealloc(v23);
+v40:;
+    if ((v15 != 1) ? 1 : (v19 == 0)) goto v45;
+    sys_rattle_dealloc(v17);
+v45:;
+    if ((v9 != 1) ? 1 : (v13 == 0)) goto v50;
+    sys_rattle_dealloc(v11);
+v50:;
+    if ((v3 != 1) ? 1 : (v7 == 0)) return;
+    sys_rattle_dealloc(v5);
+    return;
+}
+
 void font_subset_further_tables_FurtherTablesTablesBySlot_table_1234(u8 *v0, u8 *v1, u64 v2) {
     _Alignas(4) u8 v4[20], v5[32];
     _Alignas(8) u8 v6[24];
@@ -5024,85 +7428,57 @@ v58:;
     return;
 }
 
-void font_subset_further_tables_FurtherTables_drop(u8 *v0) {
-    u8 v5 = at(u8, v0 + 56);
-    u8 *v7 = at(ptr_1, v0 + 64);
-    u64 v9 = at(u64_1, v0 + 80);
-    u8 v11 = at(u8, v0 + 112);
-    u8 *v13 = at(ptr_1, v0 + 120);
-    u64 v15 = at(u64_1, v0 + 136);
-    u8 v17 = at(u8, v0 + 168);
-    u8 *v19 = at(ptr_1, v0 + 176);
-    u64 v21 = at(u64_1, v0 + 192);
-    u8 v23 = at(u8, v0 + 224);
-    u8 *v25 = at(ptr_1, v0 + 232);
-    u64 v27 = at(u64_1, v0 + 248);
-    u8 *v29 = at(ptr_1, v0 + 288);
-    if (!(at(u8, v0 + 16) == 1)) return;
-    if ((at(u8, v0 + 280) != 1) ? 1 : (at(u64_1, v0 + 304) == 0)) goto v40;
-    sys_rattle_dealloc(v29);
-v40:;
-    if ((v23 != 1) ? 1 : (v27 == 0)) goto v45;
-    sys_rattle_dealloc(v25);
-v45:;
-    if ((v17 != 1) ? 1 : (v21 == 0)) goto v50;
-    sys_rattle_dealloc(v19);
-v50:;
-    if ((v11 != 1) ? 1 : (v15 == 0)) goto v55;
-    sys_rattle_dealloc(v13);
-v55:;
-    if ((v5 != 1) ? 1 : (v9 == 0)) return;
-    sys_rattle_dealloc(v7);
-    return;
-}
-
 void font_subset_kind_source_CutOfKindSource_copied(u8 *v0, u8 *v1, u64 v2) {
     _Alignas(8) u8 v4[24], v5[24];
-    u8 v63, *v67, v68, *v72;
-    u64 v73, v74;
+    u8 v72, *v76, v77, *v81;
+    u64 v82, v83;
     switch (v2) {
     case 28u: goto v7;
     case 8: goto v8;
     case 12u: goto v9;
     case 15u: goto v10;
+    case 29u: goto v11;
     default: goto v6;
     }
 v6:;
     memset(v5, 0, 24u);
-    if (v2 < 16u) goto v47;
-    goto v16;
+    if (v2 < 16u) goto v55;
+    goto v56;
 v7:;
-    if (!(at(u8, v1 + 192) == 1)) goto v15;
-    v72 = at(ptr, v1 + 200); v73 = at(u64, v1 + 208); v74 = 1; goto v21;
-v15:;
-v16:;
-    memset(v4, 0, 24u);
-    if (!(at(u8, v1 + 112) == 1)) { v63 = 0; goto v59; }
-    font_subset_font_of_kind_FontOfKind_further_6e0a(v4, at(ptr, v1 + 120), v2);
-    v63 = at(u8, v4);
-v59:;
-    memcpy(v5 + 8, v4 + 8, 16u);
-    v67 = at(ptr, v5 + 8); v68 = v63; goto v54;
+    if (!(at(u8, v1 + 192) == 1)) goto v16;
+    v81 = at(ptr, v1 + 200); v82 = at(u64, v1 + 208); v83 = 1; goto v21;
 v8:;
     if (!(at(u8, v1 + 224) == 1)) goto v26;
-    v72 = at(ptr, v1 + 232); v73 = at(u64, v1 + 240); v74 = 1; goto v21;
+    v81 = at(ptr, v1 + 232); v82 = at(u64, v1 + 240); v83 = 1; goto v21;
 v9:;
     if (!(at(u8, v1 + 256) == 1)) goto v26;
-    v72 = at(ptr, v1 + 264); v73 = at(u64, v1 + 272); v74 = 1; goto v21;
+    v81 = at(ptr, v1 + 264); v82 = at(u64, v1 + 272); v83 = 1; goto v21;
 v10:;
     if (!(at(u8, v1 + 288) == 1)) goto v26;
-    v72 = at(ptr, v1 + 296); v73 = at(u64, v1 + 304); v74 = 1; goto v21;
+    v81 = at(ptr, v1 + 296); v82 = at(u64, v1 + 304); v83 = 1; goto v21;
 v26:;
     memset(v5, 0, 24u);
-v47:;
+v55:;
     font_subset_accepted_copied(v5, at(ptr, v1 + 8), v2);
-    v67 = at(ptr, v5 + 8); v68 = at(u8, v5);
-v54:;
-    v72 = v67; v73 = at(u64, v5 + 16); v74 = (u64)v68;
+    v76 = at(ptr, v5 + 8); v77 = at(u8, v5); goto v63;
+v11:;
+    if (!(at(u8, v1 + 320) == 1)) goto v16;
+    v81 = at(ptr, v1 + 328); v82 = at(u64, v1 + 336); v83 = 1; goto v21;
+v16:;
+v56:;
+    memset(v4, 0, 24u);
+    if (!(at(u8, v1 + 112) == 1)) { v72 = 0; goto v68; }
+    font_subset_font_of_kind_FontOfKind_further_6e0a(v4, at(ptr, v1 + 120), v2);
+    v72 = at(u8, v4);
+v68:;
+    memcpy(v5 + 8, v4 + 8, 16u);
+    v76 = at(ptr, v5 + 8); v77 = v72;
+v63:;
+    v81 = v76; v82 = at(u64, v5 + 16); v83 = (u64)v77;
 v21:;
-    at(u64_1, v0) = v74;
-    at(ptr_1, v0 + 8) = v72;
-    at(u64_1, v0 + 16) = v73;
+    at(u64_1, v0) = v83;
+    at(ptr_1, v0 + 8) = v81;
+    at(u64_1, v0 + 16) = v82;
     return;
 }
 
@@ -5176,7 +7552,7 @@ v55:;
     return;
 }
 
-void font_subset_kind_source_CutOfKind_drop_3cda(u8 *v0) {
+void font_subset_kind_source_CutOfKind_drop(u8 *v0) {
     u8 v3 = at(u8, v0 + 24);
     u8 *v5 = at(ptr_1, v0 + 32);
     u64 v7 = at(u64_1, v0 + 48);
@@ -5194,34 +7570,40 @@ void font_subset_kind_source_CutOfKind_drop_3cda(u8 *v0) {
     u8 v31 = at(u8, v0 + 256);
     u8 *v33 = at(ptr_1, v0 + 264);
     u64 v35 = at(u64_1, v0 + 280);
-    if ((at(u8, v0 + 288) != 1) ? 1 : (at(u64_1, v0 + 312) == 0)) goto v43;
-    sys_rattle_dealloc(at(ptr_1, v0 + 296));
-v43:;
-    if ((v31 != 1) ? 1 : (v35 == 0)) goto v50;
+    u8 v37 = at(u8, v0 + 288);
+    u8 *v39 = at(ptr_1, v0 + 296);
+    u64 v41 = at(u64_1, v0 + 312);
+    if ((at(u8, v0 + 320) != 1) ? 1 : (at(u64_1, v0 + 344) == 0)) goto v49;
+    sys_rattle_dealloc(at(ptr_1, v0 + 328));
+v49:;
+    if ((v37 != 1) ? 1 : (v41 == 0)) goto v56;
+    sys_rattle_dealloc(v39);
+v56:;
+    if ((v31 != 1) ? 1 : (v35 == 0)) goto v61;
     sys_rattle_dealloc(v33);
-v50:;
-    if ((v25 != 1) ? 1 : (v29 == 0)) goto v55;
+v61:;
+    if ((v25 != 1) ? 1 : (v29 == 0)) goto v66;
     sys_rattle_dealloc(v27);
-v55:;
-    if ((v19 != 1) ? 1 : (v23 == 0)) goto v60;
+v66:;
+    if ((v19 != 1) ? 1 : (v23 == 0)) goto v71;
     sys_rattle_dealloc(v21);
-v60:;
-    if (v17 == 0) goto v63;
+v71:;
+    if (v17 == 0) goto v74;
     sys_rattle_dealloc(v15);
-v63:;
-    if ((v3 != 1) ? 1 : (v7 == 0)) goto v68;
+v74:;
+    if ((v3 != 1) ? 1 : (v7 == 0)) goto v79;
     sys_rattle_dealloc(v5);
-v68:;
+v79:;
     if ((v9 != 1) ? 1 : (v13 == 0)) return;
     sys_rattle_dealloc(v11);
     return;
 }
 
 void font_subset_kind_source_CutOfKind_new_991b(u8 *v0, u8 *v1, u8 v2, u8 *v3, u8 *v4) {
-    _Alignas(8) u8 v6[56], v7[152], v8[104], v9[200], v10[16], v12[24], v13[144], v14[24], v15[328], v20[192];
+    _Alignas(8) u8 v6[56], v7[152], v8[104], v9[200], v10[16], v12[24], v13[144], v14[24], v15[360], v20[192];
     u8 v11[111], v19[199];
     u64 v17 = (u64)at(u8, v4);
-    memset(v15, 0, 328u);
+    memset(v15, 0, 360u);
     memset(v19, 0, 199u);
     memset(v20, 0, 192u);
     memcpy(v10, v4 + 8, 16u);
@@ -5262,21 +7644,21 @@ void font_subset_kind_source_CutOfKind_new_991b(u8 *v0, u8 *v1, u8 v2, u8 *v3, u
     memcpy(v20, v19 + 7, 192u);
     font_subset_kind_source_CutOfKind_of_87a4(v15, v20);
     at(u8, v0) = at(u8, v15);
-    memcpy(v0 + 8, v15 + 8, 320u);
+    memcpy(v0 + 8, v15 + 8, 352u);
     return;
 v27:;
 v28:;
 v52:;
     at(u8, v0) = 1;
-    memset(v0 + 8, 0, 320u);
+    memset(v0 + 8, 0, 352u);
     return;
 }
 
 void font_subset_kind_source_CutOfKind_new_d913(u8 *v0, u8 *v1, u8 v2, u8 *v3, u8 *v4) {
-    _Alignas(8) u8 v6[200], v7[16], v8[152], v9[144], v10[24], v11[328], v15[192];
+    _Alignas(8) u8 v6[200], v7[16], v8[152], v9[144], v10[24], v11[360], v15[192];
     u8 v14[192];
     u8 v12 = at(u8, v4);
-    memset(v11, 0, 328u);
+    memset(v11, 0, 360u);
     memset(v15, 0, 192u);
     memcpy(v7, v4 + 8, 16u);
     memset(v6, 0, 200u);
@@ -5298,741 +7680,922 @@ void font_subset_kind_source_CutOfKind_new_d913(u8 *v0, u8 *v1, u8 v2, u8 *v3, u
     memcpy(v15, v14, 192u);
     font_subset_kind_source_CutOfKind_of_1490(v11, v15);
     at(u8, v0) = at(u8, v11);
-    memcpy(v0 + 8, v11 + 8, 320u);
+    memcpy(v0 + 8, v11 + 8, 352u);
     return;
 v21:;
 v22:;
     at(u8, v0) = 1;
-    memset(v0 + 8, 0, 320u);
+    memset(v0 + 8, 0, 352u);
     return;
 }
 
 static void font_subset_kind_source_CutOfKind_of_1490(u8 *v0, u8 *v1) {
-    _Alignas(8) u8 v3[1], v4[24], v8[24], v10[40], v11[40], v12[24], v13[192], v14[24], v18[24];
-    u8 v5[31], v6[31], v7[31], v9[31], v17[191], *v130, *v176, *v380, *v381, *v388, *v391, *v392, *v421, *v436, *v450, *v511, v734, v735, *v738, *v742, *v745, v748, v749, *v752, *v756, *v759;
-    u64 v57, v112, v105, v122, v129, v131, v170, v190, v197, v210, v213, v220, v229, v260, v261, v279, v286, v299, v302, v230, v328, v340, v341, v343, v345, v352, v393, v394, v405, v422, v423, v437, v438, v451, v452, v464, v465, v471, v474, v478, v475, v489, v500, v501, v515, v516, v529, v530, v554, v565, v568, v576, v578, v593, v596, v598, v597, v615, v638, v648, v651, v659, v661, v736, v737, v739, v740, v741, v743, v744, v746, v747, v750, v751, v753, v754, v755, v757, v758, v760, v761;
-    flag v128, v678;
-    u8x16 v199, v288;
-    u64x2 v330;
-    u32 v378, v379, v389, v390, v476, v502;
-    u8 v15 = at(u8, v1);
-    memset(v17, 0, 191u);
+    _Alignas(8) u8 v3[1], v4[24], v5[40], v7[24], v8[24], v9[32], v10[24], v11[8], v12[24], v13[24], v14[40], v15[40], v16[24], v17[192], v18[24], v22[24];
+    _Alignas(4) u8 v6[16];
+    u8 v21[191], *v134, *v181, *v387, *v388, *v395, *v398, *v399, *v428, *v443, *v457, *v518, *v692, *v728, *v742, *v743, *v774, *v784, *v785, *v787, v849, v850, *v852, *v856, *v860, *v863, v867, v868, *v870, *v874, *v878, *v881;
+    u64 v61, v116, v109, v126, v133, v135, v175, v195, v202, v215, v218, v225, v234, v265, v266, v286, v293, v306, v309, v235, v335, v347, v348, v350, v352, v359, v400, v401, v412, v429, v430, v444, v445, v458, v459, v471, v472, v478, v481, v485, v482, v496, v507, v508, v522, v523, v536, v537, v561, v572, v575, v583, v585, v604, v607, v609, v608, v626, v649, v659, v662, v670, v672, v693, v694, v745, v755, v773, v775, v786, v788, v816, v851, v853, v854, v855, v857, v858, v859, v861, v862, v864, v865, v866, v869, v871, v872, v873, v875, v876, v877, v879, v880, v882, v883, v884;
+    flag v132;
+    u8x16 v204, v295;
+    u64x2 v337;
+    u32 v385, v386, v396, v397, v483, v509;
+    u8 v19 = at(u8, v1);
+    memset(v21, 0, 191u);
+    memset(v22, 0, 24u);
+    if (!(v19 == 0)) goto v25;
+    memcpy(v21, v1 + 1, 191u);
+    v867 = 0; v868 = 0; v869 = 0; v870 = (u8 *)0; v871 = 0; v872 = 0; v873 = 0; v874 = (u8 *)0; v875 = 0; v876 = 0; v877 = 0; v878 = (u8 *)0; v879 = 0; v880 = 0; v881 = (u8 *)0; v882 = 0; v883 = 0; v884 = 0; goto v26;
+v25:;
     memset(v18, 0, 24u);
-    if (!(v15 == 0)) goto v21;
-    memcpy(v17, v1 + 1, 191u);
-    v748 = 0; v749 = 0; v750 = 0; v751 = 0; v752 = (u8 *)0; v753 = 0; v754 = 0; v755 = 0; v756 = (u8 *)0; v757 = 0; v758 = 0; v759 = (u8 *)0; v760 = 0; v761 = 0; goto v22;
-v21:;
-    memset(v14, 0, 24u);
-    at(u8, v13) = v15;
-    memcpy(v13 + 1, v1 + 1, 191u);
-    if (!(at(u8, v13 + 112) == 1)) goto v28;
-    u8 *v30 = at(ptr, v13 + 120);
-    memset(v12, 0, 24u);
-    memset(v11, 0, 40u);
-    divided_tables_metrics_kept_metrics_6f24(v11, v13, 7, 8);
-    u8 v33 = at(u8, v11 + 8);
-    u8 *v35 = at(ptr, v11 + 16);
-    u64 v37 = at(u64, v11 + 24);
-    u64 v39 = at(u64, v11 + 32);
-    if (!(at(u8, v11) == 0)) goto v42;
-    u64 v43 = (u64)v33;
-    u8 *v46 = at(ptr_1, at(ptr, v13 + 8));
-    u64 v47 = (u64)v46;
-    u16 v49 = at(u16_1, v46 + 4);
-    u64 v51 = (u64)bswap16(v49);
-    if (v49 == 0) { v128 = 1; v129 = 0; v130 = (u8 *)0; v131 = 0; goto v53; }
-    v57 = 0;
-v54:;
-    u64 v59 = v57 << 4;
-    if (!((((at(u8, v46 + (i64)v59 + 12) == 112u) & (at(u8, v46 + (i64)v59 + 13) == 111u)) & (at(u8, v46 + (i64)v59 + 14) == 115u)) & (at(u8, v46 + (i64)v59 + 15) == 116u))) goto v55;
-    u64 v83 = (u64)bswap32(at(u32_1, v46 + (i64)v59 + 20));
-    if (bswap32(at(u32_1, v46 + (i64)v59 + 24)) < 32u) { v128 = 1; v129 = 0; v130 = (u8 *)0; v131 = 0; goto v53; }
-    u64_u64 v88 = sys_rattle_alloc(32u, 1);
-    if (!(v88._0 & 1)) goto v92;
-    u64 v93 = v88._1;
-    u8 *v94 = (u8 *)v93;
-    if (!((v93 - ((u64)(v46 + (i64)v83))) < 32u)) goto v99;
-    if ((v93 - (v47 + v83)) < 32u) v112 = 0; else { v105 = 0; goto v104; }
+    at(u8, v17) = v19;
+    memcpy(v17 + 1, v1 + 1, 191u);
+    if (!(at(u8, v17 + 112) == 1)) goto v32;
+    u8 *v34 = at(ptr, v17 + 120);
+    memset(v16, 0, 24u);
+    memset(v15, 0, 40u);
+    divided_tables_metrics_kept_metrics_6f24(v15, v17, 7, 8);
+    u8 v37 = at(u8, v15 + 8);
+    u8 *v39 = at(ptr, v15 + 16);
+    u64 v41 = at(u64, v15 + 24);
+    u64 v43 = at(u64, v15 + 32);
+    if (!(at(u8, v15) == 0)) goto v46;
+    u64 v47 = (u64)v37;
+    u8 *v50 = at(ptr_1, at(ptr, v17 + 8));
+    u64 v51 = (u64)v50;
+    u16 v53 = at(u16_1, v50 + 4);
+    u64 v55 = (u64)bswap16(v53);
+    if (v53 == 0) { v132 = 1; v133 = 0; v134 = (u8 *)0; v135 = 0; goto v57; }
+    v61 = 0;
+v58:;
+    u64 v63 = v61 << 4;
+    if (!((((at(u8, v50 + (i64)v63 + 12) == 112u) & (at(u8, v50 + (i64)v63 + 13) == 111u)) & (at(u8, v50 + (i64)v63 + 14) == 115u)) & (at(u8, v50 + (i64)v63 + 15) == 116u))) goto v59;
+    u64 v87 = (u64)bswap32(at(u32_1, v50 + (i64)v63 + 20));
+    if (bswap32(at(u32_1, v50 + (i64)v63 + 24)) < 32u) { v132 = 1; v133 = 0; v134 = (u8 *)0; v135 = 0; goto v57; }
+    u64_u64 v92 = sys_rattle_alloc(32u, 1);
+    if (!(v92._0 & 1)) goto v96;
+    u64 v97 = v92._1;
+    u8 *v98 = (u8 *)v97;
+    if (!((v97 - ((u64)(v50 + (i64)v87))) < 32u)) goto v103;
+    if ((v97 - (v51 + v87)) < 32u) v116 = 0; else { v109 = 0; goto v108; }
+v107:;
+    at(u8, v98 + v116) = at(u8, (v50 + (i64)v87) + v116);
+    u64 v117 = v116 + 1;
+    if (v117 == 32u) goto v115;
+    v116 = v117; goto v107;
+v108:;
+    at(u8x16_1, v98 + v109) = at(u8x16_1, (v50 + (i64)v87) + v109);
+    u64 v110 = v109 + 16u;
+    if (v110 == 32u) goto v115;
+    v109 = v110; goto v108;
 v103:;
-    at(u8, v94 + v112) = at(u8, (v46 + (i64)v83) + v112);
-    u64 v113 = v112 + 1;
-    if (v113 == 32u) goto v111;
-    v112 = v113; goto v103;
-v104:;
-    at(u8x16_1, v94 + v105) = at(u8x16_1, (v46 + (i64)v83) + v105);
-    u64 v106 = v105 + 16u;
-    if (v106 == 32u) goto v111;
-    v105 = v106; goto v104;
-v99:;
-    memmove(v94, v46 + (i64)v83, 32u);
-v111:;
-    if ((v93 - ((u64)(u8 *)table_62a9c92b)) < 4) v122 = 0; else goto v121;
-v120:;
-    at(u8, v94 + v122) = at(u8, (u8 *)table_62a9c92b + v122);
-    u64 v123 = v122 + 1;
-    if (v123 == 4) { v128 = 0; v129 = 1; v130 = v94; v131 = 32u; goto v53; }
-    v122 = v123; goto v120;
-v121:;
-    at(u32_1, v94) = 768u;
-    v128 = 0; v129 = 1; v130 = v94; v131 = 32u; goto v53;
-v92:;
-    if ((v33 != 1) ? 1 : (v39 == 0)) goto v42;
-    sys_rattle_dealloc(v35);
-    goto v42;
-v55:;
-    u64 v56 = v57 + 1;
-    if (v56 == v51) { v128 = 1; v129 = 0; v130 = (u8 *)0; v131 = 0; } else { v57 = v56; goto v54; }
-v53:;
-    memset(v10, 0, 40u);
-    divided_tables_metrics_kept_metrics_6f24(v10, v13, 14u, 15u);
-    u8 v134 = at(u8, v10 + 8);
-    u8 *v136 = at(ptr, v10 + 16);
-    u64 v138 = at(u64, v10 + 24);
-    u64 v140 = at(u64, v10 + 32);
-    if (!(at(u8, v10) == 0)) goto v143;
-    memset(v8, 0, 24u);
-    memset(v9, 0, 31u);
-    u8 v149 = at(u8, v30 + 384);
-    if (v149 == 0) goto v151;
-    memset(v7, 0, 31u);
-    u16 v155 = at(u16, v30 + 458);
-    u64 v156 = (u64)v155;
-    flag v157 = v155 == 0;
-    if (v157) { v176 = v3; goto v158; }
-    u64_u64 v162 = sys_rattle_alloc(v156 << 4, 8);
-    if (!(v162._0 & 1)) goto v166;
-    u8 *v168 = (u8 *)v162._1;
-    v170 = 0;
-v169:;
-    u64 v172 = v170 << 4;
-    at(ptr_1, v168 + v172) = (u8 *)table_d0e67785;
-    at(u64_1, v168 + v172 + 8) = 0;
-    u64 v171 = v170 + 1;
-    if (v171 == v156) v176 = v168; else { v170 = v171; goto v169; }
-v158:;
-    u8 *v178 = at(ptr, v13 + 168);
-    u64 v180 = at(u64, v13 + 176);
-    if (v180 == 0) { v210 = 0; goto v182; }
-    if (at(u8, v178) & 1) { v220 = 0; goto v186; }
-    if (v180 < 64u) { v210 = 0; goto v182; }
-    v190 = 0;
-v189:;
-    if (v190 == 0xffffffffffffffc0u) goto v192;
-    v197 = 0; v199 = (u8x16){0};
-v196:;
-    u8x16 v200 = v199 | ((-(at(u8x16_1, (v178 + (i64)v190) + (i64)v197) & 1)));
-    u64 v198 = v197 + 16u;
-    if (!(v198 == 64u)) { v197 = v198; v199 = v200; goto v196; }
-    if (!(bits_u8x16(v200) == 0)) { v210 = v190; goto v182; }
-v192:;
-    u64 v191 = v190 + 64u;
-    if ((v180 - v191) < 64u) v210 = v191; else { v190 = v191; goto v189; }
-v182:;
-    if (v210 < v180) v213 = v210; else { v220 = v180; goto v186; }
-v212:;
-    if (at(u8, v178 + v213) & 1) { v220 = v213; goto v186; }
-    u64 v214 = v213 + 1;
-    if (v214 == v180) v220 = v180; else { v213 = v214; goto v212; }
-v186:;
-    if (!(v155 > ((u16)v220))) goto v224;
-    v229 = v220;
-v228:;
-    u8 *v233 = at(ptr_1, v30 + 408);
-    u8 *v234 = at(ptr_1, v30 + 424);
-    u64 v235 = v229 & 65535u;
-    if (!(at(u8, v30 + 456) == 0)) goto v238;
-    u64 v239 = v235 << 1;
-    v260 = ((u64)bswap16(at(u16_1, v233 + (i64)v239))) << 1; v261 = ((u64)bswap16(at(u16_1, v233 + (i64)v239 + 2))) << 1; goto v250;
-v238:;
-    u64 v251 = v235 << 2;
-    v260 = (u64)bswap32(at(u32_1, v233 + (i64)v251)); v261 = (u64)bswap32(at(u32_1, v233 + (i64)v251 + 4));
-v250:;
-    u64 v264 = v235 << 4;
-    at(ptr_1, v176 + (i64)v264) = v234 + (i64)v260;
-    at(u64_1, v176 + (i64)v264 + 8) = v261 - v260;
-    u64 v268 = (v229 + 1) & 65535u;
-    if (!(v180 > v268)) goto v271;
-    if (at(u8, v178 + v268) & 1) { v230 = v268; goto v231; }
-v271:;
-    if ((v180 - v268) < 64u) { v299 = v268; goto v277; }
-    v279 = v268;
+    memmove(v98, v50 + (i64)v87, 32u);
+v115:;
+    if ((v97 - ((u64)(u8 *)table_62a9c92b)) < 4) v126 = 0; else goto v125;
+v124:;
+    at(u8, v98 + v126) = at(u8, (u8 *)table_62a9c92b + v126);
+    u64 v127 = v126 + 1;
+    if (v127 == 4) { v132 = 0; v133 = 1; v134 = v98; v135 = 32u; goto v57; }
+    v126 = v127; goto v124;
+v125:;
+    at(u32_1, v98) = 768u;
+    v132 = 0; v133 = 1; v134 = v98; v135 = 32u; goto v57;
+v96:;
+    if ((v37 != 1) ? 1 : (v43 == 0)) goto v46;
+    sys_rattle_dealloc(v39);
+    goto v46;
+v59:;
+    u64 v60 = v61 + 1;
+    if (v60 == v55) { v132 = 1; v133 = 0; v134 = (u8 *)0; v135 = 0; } else { v61 = v60; goto v58; }
+v57:;
+    memset(v14, 0, 40u);
+    divided_tables_metrics_kept_metrics_6f24(v14, v17, 14u, 15u);
+    u8 v138 = at(u8, v14 + 8);
+    u8 *v140 = at(ptr, v14 + 16);
+    u64 v142 = at(u64, v14 + 24);
+    u64 v144 = at(u64, v14 + 32);
+    if (!(at(u8, v14) == 0)) goto v147;
+    u64 v152 = (u64)v138;
+    u8 v154 = at(u8, v34 + 488);
+    if (v154 == 0) { v692 = (u8 *)0; v693 = 0; v694 = 0; goto v156; }
+    u16 v160 = at(u16, v34 + 562);
+    u64 v161 = (u64)v160;
+    flag v162 = v160 == 0;
+    if (v162) { v181 = v3; goto v163; }
+    u64_u64 v167 = sys_rattle_alloc(v161 << 4, 8);
+    if (!(v167._0 & 1)) goto v171;
+    u8 *v173 = (u8 *)v167._1;
+    v175 = 0;
+v174:;
+    u64 v177 = v175 << 4;
+    at(ptr_1, v173 + v177) = (u8 *)table_55ba7287;
+    at(u64_1, v173 + v177 + 8) = 0;
+    u64 v176 = v175 + 1;
+    if (v176 == v161) v181 = v173; else { v175 = v176; goto v174; }
+v163:;
+    u8 *v183 = at(ptr, v17 + 168);
+    u64 v185 = at(u64, v17 + 176);
+    if (v185 == 0) { v215 = 0; goto v187; }
+    if (at(u8, v183) & 1) { v225 = 0; goto v191; }
+    if (v185 < 64u) { v215 = 0; goto v187; }
+    v195 = 0;
+v194:;
+    if (v195 == 0xffffffffffffffc0u) goto v197;
+    v202 = 0; v204 = (u8x16){0};
+v201:;
+    u8x16 v205 = v204 | ((-(at(u8x16_1, (v183 + (i64)v195) + (i64)v202) & 1)));
+    u64 v203 = v202 + 16u;
+    if (!(v203 == 64u)) { v202 = v203; v204 = v205; goto v201; }
+    if (!(bits_u8x16(v205) == 0)) { v215 = v195; goto v187; }
+v197:;
+    u64 v196 = v195 + 64u;
+    if ((v185 - v196) < 64u) v215 = v196; else { v195 = v196; goto v194; }
+v187:;
+    if (v215 < v185) v218 = v215; else { v225 = v185; goto v191; }
+v217:;
+    if (at(u8, v183 + v218) & 1) { v225 = v218; goto v191; }
+    u64 v219 = v218 + 1;
+    if (v219 == v185) v225 = v185; else { v218 = v219; goto v217; }
+v191:;
+    if (!(v160 > ((u16)v225))) goto v229;
+    v234 = v225;
+v233:;
+    u8 *v238 = at(ptr_1, v34 + 512);
+    u8 *v239 = at(ptr_1, v34 + 528);
+    u64 v240 = v234 & 65535u;
+    if (!(at(u8, v34 + 560) == 0)) goto v243;
+    u64 v244 = v240 << 1;
+    v265 = ((u64)bswap16(at(u16_1, v238 + (i64)v244))) << 1; v266 = ((u64)bswap16(at(u16_1, v238 + (i64)v244 + 2))) << 1; goto v255;
+v243:;
+    u64 v256 = v240 << 2;
+    v265 = (u64)bswap32(at(u32_1, v238 + (i64)v256)); v266 = (u64)bswap32(at(u32_1, v238 + (i64)v256 + 4));
+v255:;
+    u64 v269 = v240 << 4;
+    at(ptr_1, v181 + (i64)v269) = v239 + (i64)v265;
+    at(u64_1, v181 + (i64)v269 + 8) = v266 - v265;
+    u64 v273 = (v234 + 1) & 65535u;
+    u8 *v274 = at(ptr, v17 + 168);
+    u64 v275 = at(u64, v17 + 176);
+    if (!(v275 > v273)) goto v278;
+    if (at(u8, v274 + v273) & 1) { v235 = v273; goto v236; }
 v278:;
-    if (!(v279 < 0xffffffffffffffc0u)) goto v281;
-    v286 = 0; v288 = (u8x16){0};
+    if ((v275 - v273) < 64u) { v306 = v273; goto v284; }
+    v286 = v273;
 v285:;
-    u8x16 v289 = v288 | ((-(at(u8x16_1, (v178 + (i64)v279) + (i64)v286) & 1)));
-    u64 v287 = v286 + 16u;
-    if (!(v287 == 64u)) { v286 = v287; v288 = v289; goto v285; }
-    if (!(bits_u8x16(v289) == 0)) { v299 = v279; goto v277; }
-v281:;
-    u64 v280 = v279 + 64u;
-    if ((v180 - v280) < 64u) v299 = v280; else { v279 = v280; goto v278; }
-v277:;
-    if (v299 < v180) v302 = v299; else { v230 = v180; goto v231; }
-v301:;
-    if (at(u8, v178 + v302) & 1) { v230 = v302; goto v231; }
-    u64 v303 = v302 + 1;
-    if (v303 == v180) v230 = v180; else { v302 = v303; goto v301; }
-v231:;
-    if (v155 > ((u16)v230)) { v229 = v230; goto v228; }
-v224:;
-    memset(v6, 0, 31u);
-    u8 *v311 = at(ptr_1, v30 + 392);
-    u8 *v313 = at(ptr_1, v30 + 440);
-    u64 v314 = (u64)v313;
-    u64 v316 = at(u64_1, v30 + 448);
-    memset(v5, 0, 31u);
-    memset(v4, 0, 24u);
-    u64 v318 = (v156 << 2) + 24u;
-    u64 v319 = v316 + v318;
-    if (v157) { v352 = 0; goto v320; }
-    if (v155 < 3) { v340 = 0; v341 = 0; goto v323; }
-    u64 v326 = (v156 | 0xfffffffffffffffeu) + v156;
-    v328 = 0; v330 = (u64x2){0};
+    if (!(v286 < 0xffffffffffffffc0u)) goto v288;
+    v293 = 0; v295 = (u8x16){0};
+v292:;
+    u8x16 v296 = v295 | ((-(at(u8x16_1, (v274 + (i64)v286) + (i64)v293) & 1)));
+    u64 v294 = v293 + 16u;
+    if (!(v294 == 64u)) { v293 = v294; v295 = v296; goto v292; }
+    if (!(bits_u8x16(v296) == 0)) { v306 = v286; goto v284; }
+v288:;
+    u64 v287 = v286 + 64u;
+    if ((v275 - v287) < 64u) v306 = v287; else { v286 = v287; goto v285; }
+v284:;
+    if (v306 < v275) v309 = v306; else { v235 = v275; goto v236; }
+v308:;
+    if (at(u8, v274 + v309) & 1) { v235 = v309; goto v236; }
+    u64 v310 = v309 + 1;
+    if (v310 == v275) v235 = v275; else { v309 = v310; goto v308; }
+v236:;
+    if (v160 > ((u16)v235)) { v234 = v235; goto v233; }
+v229:;
+    u8 *v318 = at(ptr_1, v34 + 496);
+    u8 *v320 = at(ptr_1, v34 + 544);
+    u64 v321 = (u64)v320;
+    u64 v323 = at(u64_1, v34 + 552);
+    memset(v13, 0, 24u);
+    u64 v325 = (v161 << 2) + 24u;
+    u64 v326 = v323 + v325;
+    if (v162) { v359 = 0; goto v327; }
+    if (v160 < 3) { v347 = 0; v348 = 0; goto v330; }
+    u64 v333 = (v161 | 0xfffffffffffffffeu) + v161;
+    v335 = 0; v337 = (u64x2){0};
+v334:;
+    u64x4 v342 = at(u64x4_8, v181 + (i64)(v335 << 4) + 8);
+    u64x2 v338 = (u64x2){v342[0], v342[2]} + v337;
+    u64 v336 = v335 + 2;
+    if (!(v336 == v333)) { v335 = v336; v337 = v338; goto v334; }
+    v347 = sum_u64x2(v338); v348 = v333;
+v330:;
+    v350 = v347; v352 = v348;
+v349:;
+    u64 v351 = at(u64, v181 + (i64)(v352 << 4) + 8) + v350;
+    u64 v353 = v352 + 1;
+    if (v353 == v161) v359 = v351; else { v350 = v351; v352 = v353; goto v349; }
 v327:;
-    u64x4 v335 = at(u64x4_8, v176 + (i64)(v328 << 4) + 8);
-    u64x2 v331 = (u64x2){v335[0], v335[2]} + v330;
-    u64 v329 = v328 + 2;
-    if (!(v329 == v326)) { v328 = v329; v330 = v331; goto v327; }
-    v340 = sum_u64x2(v331); v341 = v326;
-v323:;
-    v343 = v340; v345 = v341;
-v342:;
-    u64 v344 = at(u64, v176 + (i64)(v345 << 4) + 8) + v343;
-    u64 v346 = v345 + 1;
-    if (v346 == v156) v352 = v344; else { v343 = v344; v345 = v346; goto v342; }
-v320:;
-    u64 v353 = v352 + v319;
-    if (!(v353 == 0)) goto v356;
-    at(ptr, v4) = v3;
-    memset(v4 + 8, 0, 16u);
-    v378 = (u32)v319; v379 = (u32)v318; v380 = v4 + 16; v381 = v4 + 8; goto v361;
-v356:;
-    if (!((i64)v353 > (i64)0xffffffffffffffffu)) goto v364;
-    u64_u64 v366 = sys_rattle_alloc(v353, 1);
-    if (!(v366._0 & 1)) goto v364;
-    u8 *v371 = (u8 *)v366._1;
-    at(ptr, v4) = v371;
-    at(u64, v4 + 8) = 0;
-    at(u64, v4 + 16) = v353;
-    u32 v374 = (u32)v318;
-    u32 v375 = (u32)v319;
-    if (v353 < 8) { v378 = v375; v379 = v374; v380 = v4 + 16; v381 = v4 + 8; } else { v388 = v371; v389 = v375; v390 = v374; v391 = v4 + 16; v392 = v4 + 8; v393 = v353; v394 = 0; goto v377; }
-v361:;
-    if (!std_alloc_vec_Vec_grow_amortized_1cf2(v4, 8)) { v511 = v380; goto v384; }
-    v388 = at(ptr, v4); v389 = v378; v390 = v379; v391 = v380; v392 = v381; v393 = at(u64, v380); v394 = at(u64, v381);
-v377:;
-    u64 v395 = v394 + 8;
-    memset(v392, 0, 16u);
-    if ((((u64)(v388 + (i64)v394)) - ((u64)v311)) < 8) v405 = 0; else goto v402;
-v401:;
-    at(u8, (v388 + (i64)v394) + v405) = at(u8, v311 + v405);
-    u64 v406 = v405 + 1;
-    if (v406 == 8) goto v404;
-    v405 = v406; goto v401;
-v402:;
-    at(u64_1, v388 + (i64)v394) = at(u64_1, v311);
-v404:;
-    at(ptr, v4) = v388;
-    at(u64, v392) = v395;
-    at(u64, v391) = v393;
-    u32 v411 = bswap32(v390);
-    if (!((v393 - v395) < 4)) { v421 = v388; v422 = v393; v423 = v395; goto v415; }
-    if (!std_alloc_vec_Vec_grow_amortized_1cf2(v4, 4)) { v511 = v391; goto v384; }
-    v421 = at(ptr, v4); v422 = at(u64, v391); v423 = at(u64, v392);
-v415:;
-    u64 v424 = v423 + 4;
-    at(u32_1, v421 + (i64)v423) = v411;
-    at(ptr, v4) = v421;
-    at(u64, v392) = v424;
-    at(u64, v391) = v422;
-    u16 v426 = bswap16(v155);
-    if (!((v422 - v424) < 2)) { v436 = v421; v437 = v422; v438 = v424; goto v430; }
-    if (!std_alloc_vec_Vec_grow_amortized_1cf2(v4, 2)) { v511 = v391; goto v384; }
-    v436 = at(ptr, v4); v437 = at(u64, v391); v438 = at(u64, v392);
-v430:;
-    u64 v439 = v438 + 2;
-    at(u16_1, v436 + (i64)v438) = v426;
-    at(ptr, v4) = v436;
-    at(u64, v392) = v439;
-    at(u64, v391) = v437;
-    if (!((v437 - v439) < 2)) { v450 = v436; v451 = v437; v452 = v439; goto v444; }
-    if (!std_alloc_vec_Vec_grow_amortized_1cf2(v4, 2)) { v511 = v391; goto v384; }
-    v450 = at(ptr, v4); v451 = at(u64, v391); v452 = at(u64, v392);
-v444:;
-    u64 v453 = v452 + 2;
-    at(u16_1, v450 + (i64)v452) = 256u;
-    at(ptr, v4) = v450;
-    at(u64, v392) = v453;
-    at(u64, v391) = v451;
-    u32 v455 = bswap32(v389);
-    if (!((v451 - v453) < 4)) { v464 = v451; v465 = v453; goto v459; }
-    if (!std_alloc_vec_Vec_grow_amortized_1cf2(v4, 4)) { v511 = v391; goto v384; }
-    v464 = at(u64, v391); v465 = at(u64, v392); goto v459;
+    u64 v360 = v359 + v326;
+    if (!(v360 == 0)) goto v363;
+    at(ptr, v13) = v3;
+    memset(v13 + 8, 0, 16u);
+    v385 = (u32)v326; v386 = (u32)v325; v387 = v13 + 16; v388 = v13 + 8; goto v368;
+v363:;
+    if (!((i64)v360 > (i64)0xffffffffffffffffu)) goto v371;
+    u64_u64 v373 = sys_rattle_alloc(v360, 1);
+    if (!(v373._0 & 1)) goto v371;
+    u8 *v378 = (u8 *)v373._1;
+    at(ptr, v13) = v378;
+    at(u64, v13 + 8) = 0;
+    at(u64, v13 + 16) = v360;
+    u32 v381 = (u32)v325;
+    u32 v382 = (u32)v326;
+    if (v360 < 8) { v385 = v382; v386 = v381; v387 = v13 + 16; v388 = v13 + 8; } else { v395 = v378; v396 = v382; v397 = v381; v398 = v13 + 16; v399 = v13 + 8; v400 = v360; v401 = 0; goto v384; }
+v368:;
+    if (!std_alloc_vec_Vec_grow_amortized_1cf2(v13, 8)) { v518 = v387; goto v391; }
+    v395 = at(ptr, v13); v396 = v385; v397 = v386; v398 = v387; v399 = v388; v400 = at(u64, v387); v401 = at(u64, v388);
 v384:;
-    if (at(u64, v511) == 0) goto v364;
-    goto v514;
-v459:;
-    u64 v466 = v465 + 4;
-    at(u32_1, at(ptr, v4) + (i64)v465) = v455;
-    at(u64, v392) = v466;
-    at(u64, v391) = v464;
-    if (v157) { v500 = v466; v501 = v464; v502 = 0; goto v469; }
-    v471 = v466; v474 = v464; v476 = 0; v478 = 0;
-v470:;
-    u32 v480 = bswap32(v476);
-    if (!((v474 - v471) < 4)) { v475 = v474; v489 = v471; goto v473; }
-    if (!std_alloc_vec_Vec_grow_amortized_1cf2(v4, 4)) goto v486;
-    v475 = at(u64, v391); v489 = at(u64, v392);
-v473:;
-    u64 v472 = v489 + 4;
-    at(u32_1, at(ptr, v4) + (i64)v489) = v480;
-    at(u64, v392) = v472;
-    at(u64, v391) = v475;
-    u32 v477 = v476 + ((u32)at(u64, v176 + (i64)(v478 << 4) + 8));
-    u64 v479 = v478 + 1;
-    if (!(v479 == v156)) { v471 = v472; v474 = v475; v476 = v477; v478 = v479; goto v470; }
-    v500 = v472; v501 = v475; v502 = bswap32(v477);
-v469:;
-    if (!((v501 - v500) < 4)) { v515 = v501; v516 = v500; goto v506; }
-    if (!std_alloc_vec_Vec_grow_amortized_1cf2(v4, 4)) goto v486;
-    v515 = at(u64, v391); v516 = at(u64, v392); goto v506;
-v486:;
-    if (at(u64, v391) == 0) goto v364;
-    goto v514;
-v506:;
-    u64 v517 = v516 + 4;
-    at(u32_1, at(ptr, v4) + (i64)v516) = v502;
-    at(u64, v392) = v517;
-    at(u64, v391) = v515;
-    if (!(v316 > (v515 - v517))) { v529 = v515; v530 = v517; goto v523; }
-    if (!std_alloc_vec_Vec_grow_amortized_1cf2(v4, v316)) goto v526;
-    v529 = at(u64, v391); v530 = at(u64, v392); goto v523;
-v526:;
-    if (at(u64, v391) == 0) goto v364;
-    goto v514;
-v523:;
-    u64 v531 = v530 + v316;
-    u8 *v532 = at(ptr, v4);
-    u64 v533 = (u64)v532;
-    memset(v392, 0, 16u);
-    if (!((((u64)(v532 + (i64)v530)) - ((u64)v313)) < v316)) goto v540;
-    if (v316 < 4) { v576 = 0; goto v542; }
-    if (((v530 + v533) - v314) < 32u) { v576 = 0; goto v542; }
-    if (v316 < 16u) { v565 = 0; goto v549; }
-    u64 v551 = v316 & 12u;
-    u64 v552 = v316 & 0xfffffffffffffff0u;
-    v554 = 0;
-v553:;
-    at(u8x16_1, (v532 + (i64)v530) + v554) = at(u8x16_1, v313 + v554);
-    u64 v555 = v554 + 16u;
-    if (!(v555 == v552)) { v554 = v555; goto v553; }
-    if (v316 == v552) goto v562;
-    if (v551 == 0) { v576 = v552; goto v542; }
-    v565 = v552;
+    u64 v402 = v401 + 8;
+    memset(v399, 0, 16u);
+    if ((((u64)(v395 + (i64)v401)) - ((u64)v318)) < 8) v412 = 0; else goto v409;
+v408:;
+    at(u8, (v395 + (i64)v401) + v412) = at(u8, v318 + v412);
+    u64 v413 = v412 + 1;
+    if (v413 == 8) goto v411;
+    v412 = v413; goto v408;
+v409:;
+    at(u64_1, v395 + (i64)v401) = at(u64_1, v318);
+v411:;
+    at(ptr, v13) = v395;
+    at(u64, v399) = v402;
+    at(u64, v398) = v400;
+    u32 v418 = bswap32(v397);
+    if (!((v400 - v402) < 4)) { v428 = v395; v429 = v400; v430 = v402; goto v422; }
+    if (!std_alloc_vec_Vec_grow_amortized_1cf2(v13, 4)) { v518 = v398; goto v391; }
+    v428 = at(ptr, v13); v429 = at(u64, v398); v430 = at(u64, v399);
+v422:;
+    u64 v431 = v430 + 4;
+    at(u32_1, v428 + (i64)v430) = v418;
+    at(ptr, v13) = v428;
+    at(u64, v399) = v431;
+    at(u64, v398) = v429;
+    u16 v433 = bswap16(v160);
+    if (!((v429 - v431) < 2)) { v443 = v428; v444 = v429; v445 = v431; goto v437; }
+    if (!std_alloc_vec_Vec_grow_amortized_1cf2(v13, 2)) { v518 = v398; goto v391; }
+    v443 = at(ptr, v13); v444 = at(u64, v398); v445 = at(u64, v399);
+v437:;
+    u64 v446 = v445 + 2;
+    at(u16_1, v443 + (i64)v445) = v433;
+    at(ptr, v13) = v443;
+    at(u64, v399) = v446;
+    at(u64, v398) = v444;
+    if (!((v444 - v446) < 2)) { v457 = v443; v458 = v444; v459 = v446; goto v451; }
+    if (!std_alloc_vec_Vec_grow_amortized_1cf2(v13, 2)) { v518 = v398; goto v391; }
+    v457 = at(ptr, v13); v458 = at(u64, v398); v459 = at(u64, v399);
+v451:;
+    u64 v460 = v459 + 2;
+    at(u16_1, v457 + (i64)v459) = 256u;
+    at(ptr, v13) = v457;
+    at(u64, v399) = v460;
+    at(u64, v398) = v458;
+    u32 v462 = bswap32(v396);
+    if (!((v458 - v460) < 4)) { v471 = v458; v472 = v460; goto v466; }
+    if (!std_alloc_vec_Vec_grow_amortized_1cf2(v13, 4)) { v518 = v398; goto v391; }
+    v471 = at(u64, v398); v472 = at(u64, v399); goto v466;
+v391:;
+    if (at(u64, v518) == 0) goto v371;
+    goto v521;
+v466:;
+    u64 v473 = v472 + 4;
+    at(u32_1, at(ptr, v13) + (i64)v472) = v462;
+    at(u64, v399) = v473;
+    at(u64, v398) = v471;
+    if (v162) { v507 = v473; v508 = v471; v509 = 0; goto v476; }
+    v478 = v473; v481 = v471; v483 = 0; v485 = 0;
+v477:;
+    u32 v487 = bswap32(v483);
+    if (!((v481 - v478) < 4)) { v482 = v481; v496 = v478; goto v480; }
+    if (!std_alloc_vec_Vec_grow_amortized_1cf2(v13, 4)) goto v493;
+    v482 = at(u64, v398); v496 = at(u64, v399);
+v480:;
+    u64 v479 = v496 + 4;
+    at(u32_1, at(ptr, v13) + (i64)v496) = v487;
+    at(u64, v399) = v479;
+    at(u64, v398) = v482;
+    u32 v484 = v483 + ((u32)at(u64, v181 + (i64)(v485 << 4) + 8));
+    u64 v486 = v485 + 1;
+    if (!(v486 == v161)) { v478 = v479; v481 = v482; v483 = v484; v485 = v486; goto v477; }
+    v507 = v479; v508 = v482; v509 = bswap32(v484);
+v476:;
+    if (!((v508 - v507) < 4)) { v522 = v508; v523 = v507; goto v513; }
+    if (!std_alloc_vec_Vec_grow_amortized_1cf2(v13, 4)) goto v493;
+    v522 = at(u64, v398); v523 = at(u64, v399); goto v513;
+v493:;
+    if (at(u64, v398) == 0) goto v371;
+    goto v521;
+v513:;
+    u64 v524 = v523 + 4;
+    at(u32_1, at(ptr, v13) + (i64)v523) = v509;
+    at(u64, v399) = v524;
+    at(u64, v398) = v522;
+    if (!(v323 > (v522 - v524))) { v536 = v522; v537 = v524; goto v530; }
+    if (!std_alloc_vec_Vec_grow_amortized_1cf2(v13, v323)) goto v533;
+    v536 = at(u64, v398); v537 = at(u64, v399); goto v530;
+v533:;
+    if (at(u64, v398) == 0) goto v371;
+    goto v521;
+v530:;
+    u64 v538 = v537 + v323;
+    u8 *v539 = at(ptr, v13);
+    u64 v540 = (u64)v539;
+    memset(v399, 0, 16u);
+    if (!((((u64)(v539 + (i64)v537)) - ((u64)v320)) < v323)) goto v547;
+    if (v323 < 4) { v583 = 0; goto v549; }
+    if (((v537 + v540) - v321) < 32u) { v583 = 0; goto v549; }
+    if (v323 < 16u) { v572 = 0; goto v556; }
+    u64 v558 = v323 & 12u;
+    u64 v559 = v323 & 0xfffffffffffffff0u;
+    v561 = 0;
+v560:;
+    at(u8x16_1, (v539 + (i64)v537) + v561) = at(u8x16_1, v320 + v561);
+    u64 v562 = v561 + 16u;
+    if (!(v562 == v559)) { v561 = v562; goto v560; }
+    if (v323 == v559) goto v569;
+    if (v558 == 0) { v583 = v559; goto v549; }
+    v572 = v559;
+v556:;
+    u64 v573 = v323 & 0xfffffffffffffffcu;
+    v575 = v572;
+v574:;
+    at(u8x4_1, (v539 + (i64)v537) + v575) = at(u8x4_1, v320 + v575);
+    u64 v576 = v575 + 4;
+    if (!(v576 == v573)) { v575 = v576; goto v574; }
+    if (v323 == v573) goto v569;
+    v583 = v573;
 v549:;
-    u64 v566 = v316 & 0xfffffffffffffffcu;
-    v568 = v565;
-v567:;
-    at(u8x4_1, (v532 + (i64)v530) + v568) = at(u8x4_1, v313 + v568);
-    u64 v569 = v568 + 4;
-    if (!(v569 == v566)) { v568 = v569; goto v567; }
-    if (v316 == v566) goto v562;
-    v576 = v566;
-v542:;
-    v578 = v576;
-v577:;
-    at(u8, (v532 + (i64)v530) + v578) = at(u8, v313 + v578);
-    u64 v579 = v578 + 1;
-    if (v579 == v316) goto v562;
-    v578 = v579; goto v577;
-v540:;
-    memmove_any(v532 + (i64)v530, v313, v316);
-v562:;
-    at(u64, v392) = v531;
-    at(u64, v391) = v529;
-    if (v157) goto v586;
-    v593 = at(u64, v4 + 8); v596 = at(u64, v4 + 16); v598 = 0;
-v592:;
-    u64 v600 = v598 << 4;
-    u64 v603 = at(u64, v176 + (i64)v600 + 8);
-    u8 *v604 = at(ptr, v176 + (i64)v600);
-    u64 v605 = (u64)v604;
-    if (!(v603 > (v596 - v593))) { v597 = v596; v615 = v593; goto v609; }
-    if (!std_alloc_vec_Vec_grow_amortized_1cf2(v4, v603)) goto v612;
-    v597 = at(u64, v4 + 16); v615 = at(u64, v4 + 8); goto v609;
-v612:;
-    if (at(u64, v391) == 0) goto v364;
-v514:;
-    sys_rattle_dealloc(at(ptr, v4));
-    goto v364;
-v609:;
-    u64 v594 = v615 + v603;
-    u8 *v616 = at(ptr, v4);
-    u64 v617 = (u64)v616;
-    if (!((((u64)(v616 + (i64)v615)) - ((u64)v604)) < v603)) goto v624;
-    if (v603 < 4) { v659 = 0; goto v626; }
-    if (((v615 + v617) - v605) < 32u) { v659 = 0; goto v626; }
-    if (v603 < 16u) { v648 = 0; goto v633; }
-    u64 v635 = v603 & 12u;
-    u64 v636 = v603 & 0xfffffffffffffff0u;
-    v638 = 0;
-v637:;
-    at(u8x16_1, (v616 + (i64)v615) + v638) = at(u8x16_1, v604 + v638);
-    u64 v639 = v638 + 16u;
-    if (!(v639 == v636)) { v638 = v639; goto v637; }
-    if (v603 == v636) goto v595;
-    if (v635 == 0) { v659 = v636; goto v626; }
-    v648 = v636;
-v633:;
-    u64 v649 = v603 & 0xfffffffffffffffcu;
-    v651 = v648;
-v650:;
-    at(u8x4_1, (v616 + (i64)v615) + v651) = at(u8x4_1, v604 + v651);
-    u64 v652 = v651 + 4;
-    if (!(v652 == v649)) { v651 = v652; goto v650; }
-    if (v603 == v649) goto v595;
-    v659 = v649;
-v626:;
-    v661 = v659;
-v660:;
-    at(u8, (v616 + (i64)v615) + v661) = at(u8, v604 + v661);
-    u64 v662 = v661 + 1;
-    if (v662 == v603) goto v595;
-    v661 = v662; goto v660;
-v624:;
-    memmove_any(v616 + (i64)v615, v604, v603);
+    v585 = v583;
+v584:;
+    at(u8, (v539 + (i64)v537) + v585) = at(u8, v320 + v585);
+    u64 v586 = v585 + 1;
+    if (v586 == v323) goto v569;
+    v585 = v586; goto v584;
+v547:;
+    memmove_any(v539 + (i64)v537, v320, v323);
+v569:;
+    at(u64, v399) = v538;
+    at(u64, v398) = v536;
+    if (!v162) goto v595;
+    v692 = at(ptr, v13); v693 = at(u64, v13 + 8); v694 = at(u64, v13 + 16); goto v156;
 v595:;
-    at(u64, v4 + 8) = v594;
-    at(u64, v4 + 16) = v597;
-    u64 v599 = v598 + 1;
-    if (!(v599 == v156)) { v593 = v594; v596 = v597; v598 = v599; goto v592; }
-v586:;
-    memcpy(v5 + 7, v4, 24u);
-    memcpy(v6 + 7, v5 + 7, 24u);
-    memcpy(v7 + 7, v6 + 7, 24u);
-    v678 = 1; goto v675;
-v364:;
-    memset(v7 + 7, 0, 24u);
-    v678 = 0;
-v675:;
-    if (v157) goto v679;
-    sys_rattle_dealloc(v176);
-v679:;
-    memcpy(v9 + 7, v7 + 7, 24u);
-    if (!v678) goto v681;
-    memcpy(v8, v9 + 7, 24u);
-v151:;
-    memcpy(v12, v8, 24u);
-    memcpy(v14, v12, 24u);
-    memcpy(v17, v13 + 1, 191u);
-    memcpy(v18, v14, 24u);
-    v734 = v15; v735 = 0; v736 = (u64)v149; v737 = v43; v738 = v35; v739 = v37; v740 = v39; v741 = v129; v742 = v130; v743 = v131; v744 = (u64)v134; v745 = v136; v746 = v138; v747 = v140; goto v704;
-v166:;
-v681:;
-    if ((v134 != 1) ? 1 : (v140 == 0)) goto v694;
-    sys_rattle_dealloc(v136);
-v694:;
-    if (v128) goto v696;
-    sys_rattle_dealloc(v130);
-v696:;
-    if ((v33 != 1) ? 1 : (v39 == 0)) goto v42;
-    sys_rattle_dealloc(v35);
-    goto v42;
-v143:;
-    if (v128) goto v685;
-    sys_rattle_dealloc(v130);
-v685:;
-    if ((v33 != 1) ? 1 : (v39 == 0)) goto v42;
-    sys_rattle_dealloc(v35);
-v42:;
-    u8 v706 = at(u8, v13 + 24);
-    u8 *v708 = at(ptr, v13 + 32);
-    u64 v710 = at(u64, v13 + 48);
-    u8 v712 = at(u8, v13 + 64);
-    u8 *v714 = at(ptr, v13 + 72);
-    u64 v716 = at(u64, v13 + 88);
-    if (at(u64, v13 + 184) == 0) goto v720;
-    sys_rattle_dealloc(at(ptr, v13 + 168));
-v720:;
-    if ((v706 != 1) ? 1 : (v710 == 0)) goto v727;
-    sys_rattle_dealloc(v708);
-v727:;
-    if ((v712 != 1) ? 1 : (v716 == 0)) goto v732;
-    sys_rattle_dealloc(v714);
-v732:;
-    memset(v17, 0, 191u);
-    memset(v18, 0, 24u);
-    v734 = 0; v735 = 1; v736 = 0; v737 = 0; v738 = (u8 *)0; v739 = 0; v740 = 0; v741 = 0; v742 = (u8 *)0; v743 = 0; v744 = 0; v745 = (u8 *)0; v746 = 0; v747 = 0;
+    v604 = at(u64, v13 + 8); v607 = at(u64, v13 + 16); v609 = 0;
+v603:;
+    u64 v611 = v609 << 4;
+    u64 v614 = at(u64, v181 + (i64)v611 + 8);
+    u8 *v615 = at(ptr, v181 + (i64)v611);
+    u64 v616 = (u64)v615;
+    if (!(v614 > (v607 - v604))) { v608 = v607; v626 = v604; goto v620; }
+    if (!std_alloc_vec_Vec_grow_amortized_1cf2(v13, v614)) goto v623;
+    v608 = at(u64, v13 + 16); v626 = at(u64, v13 + 8); goto v620;
+v623:;
+    if (at(u64, v398) == 0) goto v371;
+v521:;
+    sys_rattle_dealloc(at(ptr, v13));
+    goto v371;
+v620:;
+    u64 v605 = v626 + v614;
+    u8 *v627 = at(ptr, v13);
+    u64 v628 = (u64)v627;
+    if (!((((u64)(v627 + (i64)v626)) - ((u64)v615)) < v614)) goto v635;
+    if (v614 < 4) { v670 = 0; goto v637; }
+    if (((v626 + v628) - v616) < 32u) { v670 = 0; goto v637; }
+    if (v614 < 16u) { v659 = 0; goto v644; }
+    u64 v646 = v614 & 12u;
+    u64 v647 = v614 & 0xfffffffffffffff0u;
+    v649 = 0;
+v648:;
+    at(u8x16_1, (v627 + (i64)v626) + v649) = at(u8x16_1, v615 + v649);
+    u64 v650 = v649 + 16u;
+    if (!(v650 == v647)) { v649 = v650; goto v648; }
+    if (v614 == v647) goto v606;
+    if (v646 == 0) { v670 = v647; goto v637; }
+    v659 = v647;
+v644:;
+    u64 v660 = v614 & 0xfffffffffffffffcu;
+    v662 = v659;
+v661:;
+    at(u8x4_1, (v627 + (i64)v626) + v662) = at(u8x4_1, v615 + v662);
+    u64 v663 = v662 + 4;
+    if (!(v663 == v660)) { v662 = v663; goto v661; }
+    if (v614 == v660) goto v606;
+    v670 = v660;
+v637:;
+    v672 = v670;
+v671:;
+    at(u8, (v627 + (i64)v626) + v672) = at(u8, v615 + v672);
+    u64 v673 = v672 + 1;
+    if (v673 == v614) goto v606;
+    v672 = v673; goto v671;
+v635:;
+    memmove_any(v627 + (i64)v626, v615, v614);
+v606:;
+    at(u64, v13 + 8) = v605;
+    at(u64, v13 + 16) = v608;
+    u64 v610 = v609 + 1;
+    if (!(v610 == v161)) { v604 = v605; v607 = v608; v609 = v610; goto v603; }
+    sys_rattle_dealloc(v181);
+    v692 = v627; v693 = v605; v694 = v608;
+v156:;
+    memset(v12, 0, 24u);
+    if (!(at(u8, v34 + 424) == 1)) goto v699;
+    memset(v10, 0, 24u);
+    if (!(at(u8, v17 + 112) == 1)) goto v704;
+    if (at(u8, at(ptr, v17 + 120) + 312) == 0) goto v704;
+    at(ptr, v11) = v17;
+    u8 *v711 = at(ptr, v34 + 440);
+    u64 v713 = at(u64, v34 + 448);
+    memset(v7, 0, 24u);
+    memset(v8, 0, 24u);
+    memset(v9, 0, 32u);
+    memset(v6, 0, 16u);
+    if (v713 == 0) { v728 = v3; goto v715; }
+    if (!(v713 < 0xaaaaaaaaaaaaaabu)) goto v719;
+    u64_u64 v722 = sys_rattle_alloc(v713 * 12u, 4);
+    if (!(v722._0 & 1)) goto v719;
+    v728 = (u8 *)v722._1;
+v715:;
+    at(ptr, v4) = v728;
+    at(u64, v4 + 8) = 0;
+    at(u64, v4 + 16) = v713;
+    at(ptr, v5) = v11;
+    at(ptr, v5 + 8) = v711;
+    at(u64, v5 + 16) = v713;
+    at(ptr, v5 + 24) = (u8 *)table_55ba7287;
+    at(u64, v5 + 32) = 0;
+    divided_tables_sequence_union_UnionPairsIterator_next_ec12(v6, v5);
+    if (!(at(u8, v6) == 1)) goto v738;
+    v742 = v728; v745 = 0;
+v741:;
+    if (!(at(u64, v4 + 16) == v745)) { v743 = v742; v755 = v745; goto v744; }
+    if (!std_alloc_vec_Vec_grow_amortized_5986(v4)) goto v752;
+    v743 = at(ptr, v4); v755 = at(u64, v4 + 8); goto v744;
+v752:;
+    if (at(u64, v4 + 16) == 0) goto v719;
+    sys_rattle_dealloc(at(ptr, v4));
+    goto v719;
+v744:;
+    memmove(v743 + (v755 * 12u), v6 + 4, 12u);
+    u64 v746 = v755 + 1;
+    at(u64, v4 + 8) = v746;
+    divided_tables_sequence_union_UnionPairsIterator_next_ec12(v6, v5);
+    if (at(u8, v6) == 1) { v742 = v743; v745 = v746; goto v741; }
+    u8 *v765 = at(ptr, v4);
+    u64 v766 = at(u64, v4 + 16);
+    if (!(v746 > 1048576u)) { v773 = v746; v774 = v765; v775 = v766; goto v739; }
+    if (v766 == 0) { v787 = v8; v788 = 0; goto v771; }
+    v784 = v765; v785 = v8; v786 = 0; goto v772;
+v738:;
+    v773 = 0; v774 = v728; v775 = v713;
+v739:;
+    divided_tables_sequence_tables_table_of_a10e(v9, v774, v773);
+    if (!(at(u8, v9) == 0)) goto v779;
+    memcpy(v7, v9 + 8, 24u);
+    if (v775 == 0) { v787 = v7; v788 = 1; goto v771; }
+    v784 = v774; v785 = v7; v786 = 1;
+v772:;
+    sys_rattle_dealloc(v784);
+    v787 = v785; v788 = v786;
+v771:;
+    memcpy(v10, v787, 24u);
+    memcpy(v12, v10, 24u);
+    memcpy(v16, v12, 24u);
+    v816 = v788; goto v700;
+v779:;
+    memset(v7, 0, 24u);
+    if (v775 == 0) goto v769;
+    sys_rattle_dealloc(v774);
+    goto v769;
+v719:;
+v769:;
+    if ((v154 != 1) ? 1 : (v694 == 0)) goto v803;
+    sys_rattle_dealloc(v692);
+v803:;
+    if ((v138 != 1) ? 1 : (v144 == 0)) goto v808;
+    sys_rattle_dealloc(v140);
+v808:;
+    if (v132) goto v810;
+    sys_rattle_dealloc(v134);
+v810:;
+    if ((v37 != 1) ? 1 : (v43 == 0)) goto v46;
+    sys_rattle_dealloc(v39);
+    goto v46;
 v704:;
-    v748 = v734; v749 = v735; v750 = v736; v751 = v737; v752 = v738; v753 = v739; v754 = v740; v755 = v741; v756 = v742; v757 = v743; v758 = v744; v759 = v745; v760 = v746; v761 = v747;
-v22:;
-    at(u8, v0) = v749;
-    at(u8, v0 + 8) = v748;
-    memcpy(v0 + 9, v17, 191u);
-    at(u64_1, v0 + 200) = v750;
-    memcpy(v0 + 208, v18, 24u);
-    at(u64_1, v0 + 232) = v751;
-    at(ptr_1, v0 + 240) = v752;
-    at(u64_1, v0 + 248) = v753;
-    at(u64_1, v0 + 256) = v754;
-    at(u64_1, v0 + 264) = v755;
-    at(ptr_1, v0 + 272) = v756;
-    at(u64_1, v0 + 280) = v757;
-    at(u64_1, v0 + 288) = v757;
-    at(u64_1, v0 + 296) = v758;
-    at(ptr_1, v0 + 304) = v759;
-    at(u64_1, v0 + 312) = v760;
-    at(u64_1, v0 + 320) = v761;
+    memset(v16, 0, 24u);
+    v816 = 0; goto v700;
+v699:;
+    memset(v16, 0, 24u);
+    v816 = 0;
+v700:;
+    memcpy(v18, v16, 24u);
+    u8 v818 = at(u8, v17);
+    memcpy(v21, v17 + 1, 191u);
+    memcpy(v22, v18, 24u);
+    v849 = v818; v850 = 0; v851 = (u64)v154; v852 = v692; v853 = v693; v854 = v694; v855 = v47; v856 = v39; v857 = v41; v858 = v43; v859 = v133; v860 = v134; v861 = v135; v862 = v152; v863 = v140; v864 = v142; v865 = v144; v866 = v816; goto v819;
+v371:;
+    if (v162) goto v171;
+    sys_rattle_dealloc(v181);
+v171:;
+    if ((v138 != 1) ? 1 : (v144 == 0)) goto v792;
+    sys_rattle_dealloc(v140);
+v792:;
+    if (v132) goto v794;
+    sys_rattle_dealloc(v134);
+v794:;
+    if ((v37 != 1) ? 1 : (v43 == 0)) goto v46;
+    sys_rattle_dealloc(v39);
+    goto v46;
+v147:;
+    if (v132) goto v686;
+    sys_rattle_dealloc(v134);
+v686:;
+    if ((v37 != 1) ? 1 : (v43 == 0)) goto v46;
+    sys_rattle_dealloc(v39);
+v46:;
+    u8 v821 = at(u8, v17 + 24);
+    u8 *v823 = at(ptr, v17 + 32);
+    u64 v825 = at(u64, v17 + 48);
+    u8 v827 = at(u8, v17 + 64);
+    u8 *v829 = at(ptr, v17 + 72);
+    u64 v831 = at(u64, v17 + 88);
+    if (at(u64, v17 + 184) == 0) goto v835;
+    sys_rattle_dealloc(at(ptr, v17 + 168));
+v835:;
+    if ((v821 != 1) ? 1 : (v825 == 0)) goto v842;
+    sys_rattle_dealloc(v823);
+v842:;
+    if ((v827 != 1) ? 1 : (v831 == 0)) goto v847;
+    sys_rattle_dealloc(v829);
+v847:;
+    memset(v21, 0, 191u);
+    memset(v22, 0, 24u);
+    v849 = 0; v850 = 1; v851 = 0; v852 = (u8 *)0; v853 = 0; v854 = 0; v855 = 0; v856 = (u8 *)0; v857 = 0; v858 = 0; v859 = 0; v860 = (u8 *)0; v861 = 0; v862 = 0; v863 = (u8 *)0; v864 = 0; v865 = 0; v866 = 0;
+v819:;
+    v867 = v849; v868 = v850; v869 = v851; v870 = v852; v871 = v853; v872 = v854; v873 = v855; v874 = v856; v875 = v857; v876 = v858; v877 = v859; v878 = v860; v879 = v861; v880 = v862; v881 = v863; v882 = v864; v883 = v865; v884 = v866;
+v26:;
+    at(u8, v0) = v868;
+    at(u8, v0 + 8) = v867;
+    memcpy(v0 + 9, v21, 191u);
+    at(u64_1, v0 + 200) = v869;
+    at(ptr_1, v0 + 208) = v870;
+    at(u64_1, v0 + 216) = v871;
+    at(u64_1, v0 + 224) = v872;
+    at(u64_1, v0 + 232) = v873;
+    at(ptr_1, v0 + 240) = v874;
+    at(u64_1, v0 + 248) = v875;
+    at(u64_1, v0 + 256) = v876;
+    at(u64_1, v0 + 264) = v877;
+    at(ptr_1, v0 + 272) = v878;
+    at(u64_1, v0 + 280) = v879;
+    at(u64_1, v0 + 288) = v879;
+    at(u64_1, v0 + 296) = v880;
+    at(ptr_1, v0 + 304) = v881;
+    at(u64_1, v0 + 312) = v882;
+    at(u64_1, v0 + 320) = v883;
+    at(u64_1, v0 + 328) = v884;
+    memcpy(v0 + 336, v22, 24u);
     return;
-v28:;
+v32:;
     __builtin_trap();
     __builtin_trap();
 }
 
 void font_subset_kind_source_CutOfKind_of_87a4(u8 *v0, u8 *v1) {
-    _Alignas(8) u8 v3[1], v4[32], v5[24], v7[40], v8[40], v9[192], v13[24];
-    u8 v6[31], v12[191], *v125, *v172, v364, v365, *v368, *v372, *v375, v378, v379, *v382, *v386, *v389;
-    u64 v52, v107, v100, v117, v124, v126, v166, v186, v193, v206, v209, v216, v225, v256, v257, v275, v282, v295, v298, v226, v366, v367, v369, v370, v371, v373, v374, v376, v377, v380, v381, v383, v384, v385, v387, v388, v390, v391;
-    flag v123;
-    u8x16 v195, v284;
-    u8 v10 = at(u8, v1);
-    if (!(v10 == 0)) goto v16;
-    memcpy(v12, v1 + 1, 191u);
-    memset(v13, 0, 24u);
-    v378 = 0; v379 = 0; v380 = 0; v381 = 0; v382 = (u8 *)0; v383 = 0; v384 = 0; v385 = 0; v386 = (u8 *)0; v387 = 0; v388 = 0; v389 = (u8 *)0; v390 = 0; v391 = 0; goto v17;
-v16:;
-    at(u8, v9) = v10;
-    memcpy(v9 + 1, v1 + 1, 191u);
-    if (!(at(u8, v9 + 112) == 1)) goto v23;
-    u8 *v25 = at(ptr, v9 + 120);
-    memset(v8, 0, 40u);
-    divided_tables_metrics_kept_metrics_6f24(v8, v9, 7, 8);
-    u8 v28 = at(u8, v8 + 8);
-    u8 *v30 = at(ptr, v8 + 16);
-    u64 v32 = at(u64, v8 + 24);
-    u64 v34 = at(u64, v8 + 32);
-    if (!(at(u8, v8) == 0)) goto v37;
-    u64 v38 = (u64)v28;
-    u8 *v41 = at(ptr_1, at(ptr, v9 + 8));
-    u64 v42 = (u64)v41;
-    u16 v44 = at(u16_1, v41 + 4);
-    u64 v46 = (u64)bswap16(v44);
-    if (v44 == 0) { v123 = 1; v124 = 0; v125 = (u8 *)0; v126 = 0; goto v48; }
-    v52 = 0;
-v49:;
-    u64 v54 = v52 << 4;
-    if (!((((at(u8, v41 + (i64)v54 + 12) == 112u) & (at(u8, v41 + (i64)v54 + 13) == 111u)) & (at(u8, v41 + (i64)v54 + 14) == 115u)) & (at(u8, v41 + (i64)v54 + 15) == 116u))) goto v50;
-    u64 v78 = (u64)bswap32(at(u32_1, v41 + (i64)v54 + 20));
-    if (bswap32(at(u32_1, v41 + (i64)v54 + 24)) < 32u) { v123 = 1; v124 = 0; v125 = (u8 *)0; v126 = 0; goto v48; }
-    u64_u64 v83 = sys_rattle_alloc(32u, 1);
-    if (!(v83._0 & 1)) goto v87;
-    u64 v88 = v83._1;
-    u8 *v89 = (u8 *)v88;
-    if (!((v88 - ((u64)(v41 + (i64)v78))) < 32u)) goto v94;
-    if ((v88 - (v42 + v78)) < 32u) v107 = 0; else { v100 = 0; goto v99; }
-v98:;
-    at(u8, v89 + v107) = at(u8, (v41 + (i64)v78) + v107);
-    u64 v108 = v107 + 1;
-    if (v108 == 32u) goto v106;
-    v107 = v108; goto v98;
-v99:;
-    at(u8x16_1, v89 + v100) = at(u8x16_1, (v41 + (i64)v78) + v100);
-    u64 v101 = v100 + 16u;
-    if (v101 == 32u) goto v106;
-    v100 = v101; goto v99;
-v94:;
-    memmove(v89, v41 + (i64)v78, 32u);
-v106:;
-    if ((v88 - ((u64)(u8 *)table_62a9c92b)) < 4) v117 = 0; else goto v116;
+    _Alignas(8) u8 v3[1], v4[24], v5[40], v7[24], v8[24], v9[32], v10[24], v11[8], v12[24], v13[32], v14[40], v15[40], v16[24], v17[192], v18[24], v22[24];
+    _Alignas(4) u8 v6[16];
+    u8 v21[191], *v134, *v181, *v335, *v371, *v385, *v386, *v417, *v427, *v428, *v430, v492, v493, *v495, *v499, *v503, *v506, v510, v511, *v513, *v517, *v521, *v524;
+    u64 v61, v116, v109, v126, v133, v135, v175, v195, v202, v215, v218, v225, v234, v265, v266, v286, v293, v306, v309, v235, v336, v337, v388, v398, v416, v418, v429, v431, v459, v494, v496, v497, v498, v500, v501, v502, v504, v505, v507, v508, v509, v512, v514, v515, v516, v518, v519, v520, v522, v523, v525, v526, v527;
+    flag v132;
+    u8x16 v204, v295;
+    u8 v19 = at(u8, v1);
+    memset(v21, 0, 191u);
+    memset(v22, 0, 24u);
+    if (!(v19 == 0)) goto v25;
+    memcpy(v21, v1 + 1, 191u);
+    v510 = 0; v511 = 0; v512 = 0; v513 = (u8 *)0; v514 = 0; v515 = 0; v516 = 0; v517 = (u8 *)0; v518 = 0; v519 = 0; v520 = 0; v521 = (u8 *)0; v522 = 0; v523 = 0; v524 = (u8 *)0; v525 = 0; v526 = 0; v527 = 0; goto v26;
+v25:;
+    memset(v18, 0, 24u);
+    at(u8, v17) = v19;
+    memcpy(v17 + 1, v1 + 1, 191u);
+    if (!(at(u8, v17 + 112) == 1)) goto v32;
+    u8 *v34 = at(ptr, v17 + 120);
+    memset(v16, 0, 24u);
+    memset(v15, 0, 40u);
+    divided_tables_metrics_kept_metrics_6f24(v15, v17, 7, 8);
+    u8 v37 = at(u8, v15 + 8);
+    u8 *v39 = at(ptr, v15 + 16);
+    u64 v41 = at(u64, v15 + 24);
+    u64 v43 = at(u64, v15 + 32);
+    if (!(at(u8, v15) == 0)) goto v46;
+    u64 v47 = (u64)v37;
+    u8 *v50 = at(ptr_1, at(ptr, v17 + 8));
+    u64 v51 = (u64)v50;
+    u16 v53 = at(u16_1, v50 + 4);
+    u64 v55 = (u64)bswap16(v53);
+    if (v53 == 0) { v132 = 1; v133 = 0; v134 = (u8 *)0; v135 = 0; goto v57; }
+    v61 = 0;
+v58:;
+    u64 v63 = v61 << 4;
+    if (!((((at(u8, v50 + (i64)v63 + 12) == 112u) & (at(u8, v50 + (i64)v63 + 13) == 111u)) & (at(u8, v50 + (i64)v63 + 14) == 115u)) & (at(u8, v50 + (i64)v63 + 15) == 116u))) goto v59;
+    u64 v87 = (u64)bswap32(at(u32_1, v50 + (i64)v63 + 20));
+    if (bswap32(at(u32_1, v50 + (i64)v63 + 24)) < 32u) { v132 = 1; v133 = 0; v134 = (u8 *)0; v135 = 0; goto v57; }
+    u64_u64 v92 = sys_rattle_alloc(32u, 1);
+    if (!(v92._0 & 1)) goto v96;
+    u64 v97 = v92._1;
+    u8 *v98 = (u8 *)v97;
+    if (!((v97 - ((u64)(v50 + (i64)v87))) < 32u)) goto v103;
+    if ((v97 - (v51 + v87)) < 32u) v116 = 0; else { v109 = 0; goto v108; }
+v107:;
+    at(u8, v98 + v116) = at(u8, (v50 + (i64)v87) + v116);
+    u64 v117 = v116 + 1;
+    if (v117 == 32u) goto v115;
+    v116 = v117; goto v107;
+v108:;
+    at(u8x16_1, v98 + v109) = at(u8x16_1, (v50 + (i64)v87) + v109);
+    u64 v110 = v109 + 16u;
+    if (v110 == 32u) goto v115;
+    v109 = v110; goto v108;
+v103:;
+    memmove(v98, v50 + (i64)v87, 32u);
 v115:;
-    at(u8, v89 + v117) = at(u8, (u8 *)table_62a9c92b + v117);
-    u64 v118 = v117 + 1;
-    if (v118 == 4) { v123 = 0; v124 = 1; v125 = v89; v126 = 32u; goto v48; }
-    v117 = v118; goto v115;
-v116:;
-    at(u32_1, v89) = 768u;
-    v123 = 0; v124 = 1; v125 = v89; v126 = 32u; goto v48;
-v87:;
-    if ((v28 != 1) ? 1 : (v34 == 0)) goto v37;
-    sys_rattle_dealloc(v30);
-    goto v37;
-v50:;
-    u64 v51 = v52 + 1;
-    if (v51 == v46) { v123 = 1; v124 = 0; v125 = (u8 *)0; v126 = 0; } else { v52 = v51; goto v49; }
-v48:;
-    memset(v7, 0, 40u);
-    divided_tables_metrics_kept_metrics_6f24(v7, v9, 14u, 15u);
-    u8 v129 = at(u8, v7 + 8);
-    u8 *v131 = at(ptr, v7 + 16);
-    u64 v133 = at(u64, v7 + 24);
-    u64 v135 = at(u64, v7 + 32);
-    if (!(at(u8, v7) == 0)) goto v138;
-    u8 v144 = at(u8, v25 + 384);
-    if (!(v144 == 0)) goto v147;
-    memset(v5, 0, 24u);
-    goto v148;
-v147:;
-    memset(v4, 0, 32u);
-    u16 v151 = at(u16, v25 + 458);
-    u64 v152 = (u64)v151;
-    flag v153 = v151 == 0;
-    if (v153) { v172 = v3; goto v154; }
-    u64_u64 v158 = sys_rattle_alloc(v152 << 4, 8);
-    if (!(v158._0 & 1)) goto v162;
-    u8 *v164 = (u8 *)v158._1;
-    v166 = 0;
-v165:;
-    u64 v168 = v166 << 4;
-    at(ptr_1, v164 + v168) = (u8 *)table_d0e67785;
-    at(u64_1, v164 + v168 + 8) = 0;
-    u64 v167 = v166 + 1;
-    if (v167 == v152) v172 = v164; else { v166 = v167; goto v165; }
-v154:;
-    u8 *v174 = at(ptr, v9 + 168);
-    u64 v176 = at(u64, v9 + 176);
-    if (v176 == 0) { v206 = 0; goto v178; }
-    if (at(u8, v174) & 1) { v216 = 0; goto v182; }
-    if (v176 < 64u) { v206 = 0; goto v178; }
-    v186 = 0;
-v185:;
-    if (v186 == 0xffffffffffffffc0u) goto v188;
-    v193 = 0; v195 = (u8x16){0};
-v192:;
-    u8x16 v196 = v195 | ((-(at(u8x16_1, (v174 + (i64)v186) + (i64)v193) & 1)));
-    u64 v194 = v193 + 16u;
-    if (!(v194 == 64u)) { v193 = v194; v195 = v196; goto v192; }
-    if (!(bits_u8x16(v196) == 0)) { v206 = v186; goto v178; }
-v188:;
-    u64 v187 = v186 + 64u;
-    if ((v176 - v187) < 64u) v206 = v187; else { v186 = v187; goto v185; }
-v178:;
-    if (v206 < v176) v209 = v206; else { v216 = v176; goto v182; }
-v208:;
-    if (at(u8, v174 + v209) & 1) { v216 = v209; goto v182; }
-    u64 v210 = v209 + 1;
-    if (v210 == v176) v216 = v176; else { v209 = v210; goto v208; }
-v182:;
-    if (!(v151 > ((u16)v216))) goto v220;
-    v225 = v216;
-v224:;
-    u8 *v229 = at(ptr_1, v25 + 408);
-    u8 *v230 = at(ptr_1, v25 + 424);
-    u64 v231 = v225 & 65535u;
-    if (!(at(u8, v25 + 456) == 0)) goto v234;
-    u64 v235 = v231 << 1;
-    v256 = ((u64)bswap16(at(u16_1, v229 + (i64)v235))) << 1; v257 = ((u64)bswap16(at(u16_1, v229 + (i64)v235 + 2))) << 1; goto v246;
-v234:;
-    u64 v247 = v231 << 2;
-    v256 = (u64)bswap32(at(u32_1, v229 + (i64)v247)); v257 = (u64)bswap32(at(u32_1, v229 + (i64)v247 + 4));
-v246:;
-    u64 v260 = v231 << 4;
-    at(ptr_1, v172 + (i64)v260) = v230 + (i64)v256;
-    at(u64_1, v172 + (i64)v260 + 8) = v257 - v256;
-    u64 v264 = (v225 + 1) & 65535u;
-    if (!(v176 > v264)) goto v267;
-    if (at(u8, v174 + v264) & 1) { v226 = v264; goto v227; }
-v267:;
-    if ((v176 - v264) < 64u) { v295 = v264; goto v273; }
-    v275 = v264;
-v274:;
-    if (!(v275 < 0xffffffffffffffc0u)) goto v277;
-    v282 = 0; v284 = (u8x16){0};
-v281:;
-    u8x16 v285 = v284 | ((-(at(u8x16_1, (v174 + (i64)v275) + (i64)v282) & 1)));
-    u64 v283 = v282 + 16u;
-    if (!(v283 == 64u)) { v282 = v283; v284 = v285; goto v281; }
-    if (!(bits_u8x16(v285) == 0)) { v295 = v275; goto v273; }
-v277:;
-    u64 v276 = v275 + 64u;
-    if ((v176 - v276) < 64u) v295 = v276; else { v275 = v276; goto v274; }
-v273:;
-    if (v295 < v176) v298 = v295; else { v226 = v176; goto v227; }
-v297:;
-    if (at(u8, v174 + v298) & 1) { v226 = v298; goto v227; }
-    u64 v299 = v298 + 1;
-    if (v299 == v176) v226 = v176; else { v298 = v299; goto v297; }
-v227:;
-    if (v151 > ((u16)v226)) { v225 = v226; goto v224; }
-v220:;
-    divided_tables_glyph_variations_with_data(v4, v25 + 392, v172, v152);
-    if (v153) goto v307;
-    sys_rattle_dealloc(v172);
-v307:;
-    u8 v310 = at(u8, v4);
-    memcpy(v6 + 7, v4 + 8, 24u);
-    if (!(v310 == 0)) goto v309;
-    memcpy(v5, v6 + 7, 24u);
-v148:;
-    memcpy(v12, v9 + 1, 191u);
-    memcpy(v13, v5, 24u);
-    v364 = v10; v365 = 0; v366 = (u64)v144; v367 = v38; v368 = v30; v369 = v32; v370 = v34; v371 = v124; v372 = v125; v373 = v126; v374 = (u64)v129; v375 = v131; v376 = v133; v377 = v135; goto v334;
-v162:;
-v309:;
-    if ((v129 != 1) ? 1 : (v135 == 0)) goto v324;
-    sys_rattle_dealloc(v131);
-v324:;
-    if (v123) goto v326;
-    sys_rattle_dealloc(v125);
-v326:;
-    if ((v28 != 1) ? 1 : (v34 == 0)) goto v37;
-    sys_rattle_dealloc(v30);
-    goto v37;
-v138:;
-    if (v123) goto v315;
-    sys_rattle_dealloc(v125);
-v315:;
-    if ((v28 != 1) ? 1 : (v34 == 0)) goto v37;
-    sys_rattle_dealloc(v30);
-v37:;
-    u8 v336 = at(u8, v9 + 24);
-    u8 *v338 = at(ptr, v9 + 32);
-    u64 v340 = at(u64, v9 + 48);
-    u8 v342 = at(u8, v9 + 64);
-    u8 *v344 = at(ptr, v9 + 72);
-    u64 v346 = at(u64, v9 + 88);
-    if (at(u64, v9 + 184) == 0) goto v350;
-    sys_rattle_dealloc(at(ptr, v9 + 168));
-v350:;
-    if ((v336 != 1) ? 1 : (v340 == 0)) goto v357;
-    sys_rattle_dealloc(v338);
-v357:;
-    if ((v342 != 1) ? 1 : (v346 == 0)) goto v362;
-    sys_rattle_dealloc(v344);
+    if ((v97 - ((u64)(u8 *)table_62a9c92b)) < 4) v126 = 0; else goto v125;
+v124:;
+    at(u8, v98 + v126) = at(u8, (u8 *)table_62a9c92b + v126);
+    u64 v127 = v126 + 1;
+    if (v127 == 4) { v132 = 0; v133 = 1; v134 = v98; v135 = 32u; goto v57; }
+    v126 = v127; goto v124;
+v125:;
+    at(u32_1, v98) = 768u;
+    v132 = 0; v133 = 1; v134 = v98; v135 = 32u; goto v57;
+v96:;
+    if ((v37 != 1) ? 1 : (v43 == 0)) goto v46;
+    sys_rattle_dealloc(v39);
+    goto v46;
+v59:;
+    u64 v60 = v61 + 1;
+    if (v60 == v55) { v132 = 1; v133 = 0; v134 = (u8 *)0; v135 = 0; } else { v61 = v60; goto v58; }
+v57:;
+    memset(v14, 0, 40u);
+    divided_tables_metrics_kept_metrics_6f24(v14, v17, 14u, 15u);
+    u8 v138 = at(u8, v14 + 8);
+    u8 *v140 = at(ptr, v14 + 16);
+    u64 v142 = at(u64, v14 + 24);
+    u64 v144 = at(u64, v14 + 32);
+    if (!(at(u8, v14) == 0)) goto v147;
+    u64 v152 = (u64)v138;
+    u8 v154 = at(u8, v34 + 488);
+    if (v154 == 0) { v335 = (u8 *)0; v336 = 0; v337 = 0; goto v156; }
+    memset(v13, 0, 32u);
+    u16 v160 = at(u16, v34 + 562);
+    u64 v161 = (u64)v160;
+    flag v162 = v160 == 0;
+    if (v162) { v181 = v3; goto v163; }
+    u64_u64 v167 = sys_rattle_alloc(v161 << 4, 8);
+    if (!(v167._0 & 1)) goto v171;
+    u8 *v173 = (u8 *)v167._1;
+    v175 = 0;
+v174:;
+    u64 v177 = v175 << 4;
+    at(ptr_1, v173 + v177) = (u8 *)table_55ba7287;
+    at(u64_1, v173 + v177 + 8) = 0;
+    u64 v176 = v175 + 1;
+    if (v176 == v161) v181 = v173; else { v175 = v176; goto v174; }
+v163:;
+    u8 *v183 = at(ptr, v17 + 168);
+    u64 v185 = at(u64, v17 + 176);
+    if (v185 == 0) { v215 = 0; goto v187; }
+    if (at(u8, v183) & 1) { v225 = 0; goto v191; }
+    if (v185 < 64u) { v215 = 0; goto v187; }
+    v195 = 0;
+v194:;
+    if (v195 == 0xffffffffffffffc0u) goto v197;
+    v202 = 0; v204 = (u8x16){0};
+v201:;
+    u8x16 v205 = v204 | ((-(at(u8x16_1, (v183 + (i64)v195) + (i64)v202) & 1)));
+    u64 v203 = v202 + 16u;
+    if (!(v203 == 64u)) { v202 = v203; v204 = v205; goto v201; }
+    if (!(bits_u8x16(v205) == 0)) { v215 = v195; goto v187; }
+v197:;
+    u64 v196 = v195 + 64u;
+    if ((v185 - v196) < 64u) v215 = v196; else { v195 = v196; goto v194; }
+v187:;
+    if (v215 < v185) v218 = v215; else { v225 = v185; goto v191; }
+v217:;
+    if (at(u8, v183 + v218) & 1) { v225 = v218; goto v191; }
+    u64 v219 = v218 + 1;
+    if (v219 == v185) v225 = v185; else { v218 = v219; goto v217; }
+v191:;
+    if (!(v160 > ((u16)v225))) goto v229;
+    v234 = v225;
+v233:;
+    u8 *v238 = at(ptr_1, v34 + 512);
+    u8 *v239 = at(ptr_1, v34 + 528);
+    u64 v240 = v234 & 65535u;
+    if (!(at(u8, v34 + 560) == 0)) goto v243;
+    u64 v244 = v240 << 1;
+    v265 = ((u64)bswap16(at(u16_1, v238 + (i64)v244))) << 1; v266 = ((u64)bswap16(at(u16_1, v238 + (i64)v244 + 2))) << 1; goto v255;
+v243:;
+    u64 v256 = v240 << 2;
+    v265 = (u64)bswap32(at(u32_1, v238 + (i64)v256)); v266 = (u64)bswap32(at(u32_1, v238 + (i64)v256 + 4));
+v255:;
+    u64 v269 = v240 << 4;
+    at(ptr_1, v181 + (i64)v269) = v239 + (i64)v265;
+    at(u64_1, v181 + (i64)v269 + 8) = v266 - v265;
+    u64 v273 = (v234 + 1) & 65535u;
+    u8 *v274 = at(ptr, v17 + 168);
+    u64 v275 = at(u64, v17 + 176);
+    if (!(v275 > v273)) goto v278;
+    if (at(u8, v274 + v273) & 1) { v235 = v273; goto v236; }
+v278:;
+    if ((v275 - v273) < 64u) { v306 = v273; goto v284; }
+    v286 = v273;
+v285:;
+    if (!(v286 < 0xffffffffffffffc0u)) goto v288;
+    v293 = 0; v295 = (u8x16){0};
+v292:;
+    u8x16 v296 = v295 | ((-(at(u8x16_1, (v274 + (i64)v286) + (i64)v293) & 1)));
+    u64 v294 = v293 + 16u;
+    if (!(v294 == 64u)) { v293 = v294; v295 = v296; goto v292; }
+    if (!(bits_u8x16(v296) == 0)) { v306 = v286; goto v284; }
+v288:;
+    u64 v287 = v286 + 64u;
+    if ((v275 - v287) < 64u) v306 = v287; else { v286 = v287; goto v285; }
+v284:;
+    if (v306 < v275) v309 = v306; else { v235 = v275; goto v236; }
+v308:;
+    if (at(u8, v274 + v309) & 1) { v235 = v309; goto v236; }
+    u64 v310 = v309 + 1;
+    if (v310 == v275) v235 = v275; else { v309 = v310; goto v308; }
+v236:;
+    if (v160 > ((u16)v235)) { v234 = v235; goto v233; }
+v229:;
+    divided_tables_glyph_variations_with_data(v13, v34 + 496, v181, v161);
+    if (v162) goto v318;
+    sys_rattle_dealloc(v181);
+v318:;
+    if (at(u8, v13) == 0) { v335 = at(ptr, v13 + 8); v336 = at(u64, v13 + 16); v337 = at(u64, v13 + 24); } else goto v320;
+v156:;
+    memset(v12, 0, 24u);
+    if (!(at(u8, v34 + 424) == 1)) goto v342;
+    memset(v10, 0, 24u);
+    if (!(at(u8, v17 + 112) == 1)) goto v347;
+    if (at(u8, at(ptr, v17 + 120) + 312) == 0) goto v347;
+    at(ptr, v11) = v17;
+    u8 *v354 = at(ptr, v34 + 440);
+    u64 v356 = at(u64, v34 + 448);
+    memset(v7, 0, 24u);
+    memset(v8, 0, 24u);
+    memset(v9, 0, 32u);
+    memset(v6, 0, 16u);
+    if (v356 == 0) { v371 = v3; goto v358; }
+    if (!(v356 < 0xaaaaaaaaaaaaaabu)) goto v362;
+    u64_u64 v365 = sys_rattle_alloc(v356 * 12u, 4);
+    if (!(v365._0 & 1)) goto v362;
+    v371 = (u8 *)v365._1;
+v358:;
+    at(ptr, v4) = v371;
+    at(u64, v4 + 8) = 0;
+    at(u64, v4 + 16) = v356;
+    at(ptr, v5) = v11;
+    at(ptr, v5 + 8) = v354;
+    at(u64, v5 + 16) = v356;
+    at(ptr, v5 + 24) = (u8 *)table_55ba7287;
+    at(u64, v5 + 32) = 0;
+    divided_tables_sequence_union_UnionPairsIterator_next_ec12(v6, v5);
+    if (!(at(u8, v6) == 1)) goto v381;
+    v385 = v371; v388 = 0;
+v384:;
+    if (!(at(u64, v4 + 16) == v388)) { v386 = v385; v398 = v388; goto v387; }
+    if (!std_alloc_vec_Vec_grow_amortized_5986(v4)) goto v395;
+    v386 = at(ptr, v4); v398 = at(u64, v4 + 8); goto v387;
+v395:;
+    if (at(u64, v4 + 16) == 0) goto v362;
+    sys_rattle_dealloc(at(ptr, v4));
+    goto v362;
+v387:;
+    memmove(v386 + (v398 * 12u), v6 + 4, 12u);
+    u64 v389 = v398 + 1;
+    at(u64, v4 + 8) = v389;
+    divided_tables_sequence_union_UnionPairsIterator_next_ec12(v6, v5);
+    if (at(u8, v6) == 1) { v385 = v386; v388 = v389; goto v384; }
+    u8 *v408 = at(ptr, v4);
+    u64 v409 = at(u64, v4 + 16);
+    if (!(v389 > 1048576u)) { v416 = v389; v417 = v408; v418 = v409; goto v382; }
+    if (v409 == 0) { v430 = v8; v431 = 0; goto v414; }
+    v427 = v408; v428 = v8; v429 = 0; goto v415;
+v381:;
+    v416 = 0; v417 = v371; v418 = v356;
+v382:;
+    divided_tables_sequence_tables_table_of_a10e(v9, v417, v416);
+    if (!(at(u8, v9) == 0)) goto v422;
+    memcpy(v7, v9 + 8, 24u);
+    if (v418 == 0) { v430 = v7; v431 = 1; goto v414; }
+    v427 = v417; v428 = v7; v429 = 1;
+v415:;
+    sys_rattle_dealloc(v427);
+    v430 = v428; v431 = v429;
+v414:;
+    memcpy(v10, v430, 24u);
+    memcpy(v12, v10, 24u);
+    memcpy(v16, v12, 24u);
+    v459 = v431; goto v343;
+v422:;
+    memset(v7, 0, 24u);
+    if (v418 == 0) goto v412;
+    sys_rattle_dealloc(v417);
+    goto v412;
 v362:;
-    memset(v12, 0, 191u);
-    memset(v13, 0, 24u);
-    v364 = 0; v365 = 1; v366 = 0; v367 = 0; v368 = (u8 *)0; v369 = 0; v370 = 0; v371 = 0; v372 = (u8 *)0; v373 = 0; v374 = 0; v375 = (u8 *)0; v376 = 0; v377 = 0;
-v334:;
-    v378 = v364; v379 = v365; v380 = v366; v381 = v367; v382 = v368; v383 = v369; v384 = v370; v385 = v371; v386 = v372; v387 = v373; v388 = v374; v389 = v375; v390 = v376; v391 = v377;
-v17:;
-    at(u8, v0) = v379;
-    at(u8, v0 + 8) = v378;
-    memcpy(v0 + 9, v12, 191u);
-    at(u64_1, v0 + 200) = v380;
-    memcpy(v0 + 208, v13, 24u);
-    at(u64_1, v0 + 232) = v381;
-    at(ptr_1, v0 + 240) = v382;
-    at(u64_1, v0 + 248) = v383;
-    at(u64_1, v0 + 256) = v384;
-    at(u64_1, v0 + 264) = v385;
-    at(ptr_1, v0 + 272) = v386;
-    at(u64_1, v0 + 280) = v387;
-    at(u64_1, v0 + 288) = v387;
-    at(u64_1, v0 + 296) = v388;
-    at(ptr_1, v0 + 304) = v389;
-    at(u64_1, v0 + 312) = v390;
-    at(u64_1, v0 + 320) = v391;
+v412:;
+    if ((v154 != 1) ? 1 : (v337 == 0)) goto v446;
+    sys_rattle_dealloc(v335);
+v446:;
+    if ((v138 != 1) ? 1 : (v144 == 0)) goto v451;
+    sys_rattle_dealloc(v140);
+v451:;
+    if (v132) goto v453;
+    sys_rattle_dealloc(v134);
+v453:;
+    if ((v37 != 1) ? 1 : (v43 == 0)) goto v46;
+    sys_rattle_dealloc(v39);
+    goto v46;
+v347:;
+    memset(v16, 0, 24u);
+    v459 = 0; goto v343;
+v342:;
+    memset(v16, 0, 24u);
+    v459 = 0;
+v343:;
+    memcpy(v18, v16, 24u);
+    u8 v461 = at(u8, v17);
+    memcpy(v21, v17 + 1, 191u);
+    memcpy(v22, v18, 24u);
+    v492 = v461; v493 = 0; v494 = (u64)v154; v495 = v335; v496 = v336; v497 = v337; v498 = v47; v499 = v39; v500 = v41; v501 = v43; v502 = v133; v503 = v134; v504 = v135; v505 = v152; v506 = v140; v507 = v142; v508 = v144; v509 = v459; goto v462;
+v171:;
+v320:;
+    if ((v138 != 1) ? 1 : (v144 == 0)) goto v435;
+    sys_rattle_dealloc(v140);
+v435:;
+    if (v132) goto v437;
+    sys_rattle_dealloc(v134);
+v437:;
+    if ((v37 != 1) ? 1 : (v43 == 0)) goto v46;
+    sys_rattle_dealloc(v39);
+    goto v46;
+v147:;
+    if (v132) goto v329;
+    sys_rattle_dealloc(v134);
+v329:;
+    if ((v37 != 1) ? 1 : (v43 == 0)) goto v46;
+    sys_rattle_dealloc(v39);
+v46:;
+    u8 v464 = at(u8, v17 + 24);
+    u8 *v466 = at(ptr, v17 + 32);
+    u64 v468 = at(u64, v17 + 48);
+    u8 v470 = at(u8, v17 + 64);
+    u8 *v472 = at(ptr, v17 + 72);
+    u64 v474 = at(u64, v17 + 88);
+    if (at(u64, v17 + 184) == 0) goto v478;
+    sys_rattle_dealloc(at(ptr, v17 + 168));
+v478:;
+    if ((v464 != 1) ? 1 : (v468 == 0)) goto v485;
+    sys_rattle_dealloc(v466);
+v485:;
+    if ((v470 != 1) ? 1 : (v474 == 0)) goto v490;
+    sys_rattle_dealloc(v472);
+v490:;
+    memset(v21, 0, 191u);
+    memset(v22, 0, 24u);
+    v492 = 0; v493 = 1; v494 = 0; v495 = (u8 *)0; v496 = 0; v497 = 0; v498 = 0; v499 = (u8 *)0; v500 = 0; v501 = 0; v502 = 0; v503 = (u8 *)0; v504 = 0; v505 = 0; v506 = (u8 *)0; v507 = 0; v508 = 0; v509 = 0;
+v462:;
+    v510 = v492; v511 = v493; v512 = v494; v513 = v495; v514 = v496; v515 = v497; v516 = v498; v517 = v499; v518 = v500; v519 = v501; v520 = v502; v521 = v503; v522 = v504; v523 = v505; v524 = v506; v525 = v507; v526 = v508; v527 = v509;
+v26:;
+    at(u8, v0) = v511;
+    at(u8, v0 + 8) = v510;
+    memcpy(v0 + 9, v21, 191u);
+    at(u64_1, v0 + 200) = v512;
+    at(ptr_1, v0 + 208) = v513;
+    at(u64_1, v0 + 216) = v514;
+    at(u64_1, v0 + 224) = v515;
+    at(u64_1, v0 + 232) = v516;
+    at(ptr_1, v0 + 240) = v517;
+    at(u64_1, v0 + 248) = v518;
+    at(u64_1, v0 + 256) = v519;
+    at(u64_1, v0 + 264) = v520;
+    at(ptr_1, v0 + 272) = v521;
+    at(u64_1, v0 + 280) = v522;
+    at(u64_1, v0 + 288) = v522;
+    at(u64_1, v0 + 296) = v523;
+    at(ptr_1, v0 + 304) = v524;
+    at(u64_1, v0 + 312) = v525;
+    at(u64_1, v0 + 320) = v526;
+    at(u64_1, v0 + 328) = v527;
+    memcpy(v0 + 336, v22, 24u);
     return;
-v23:;
+v32:;
     __builtin_trap();
     __builtin_trap();
 }
 
 flag font_subset_presence_Presence_has(u8 *v0, u16 v1) {
-    u64 v35, v36, v131, v132;
-    u8 *v66, *v92;
-    flag v67, v93;
+    u64 v35, v36, v134, v135, v154, v156, v172, v174, v187, v188, v189;
+    u8 *v68, *v95;
+    flag v69, v96;
     u8 *v5 = at(ptr, at(ptr, v0) + 8);
     u8 *v9 = at(ptr_1, v5 + 32);
     u64 v10 = (u64)v1;
@@ -6044,53 +8607,84 @@ v13:;
     v35 = (u64)bswap32(at(u32_1, v9 + (i64)v26)); v36 = (u64)bswap32(at(u32_1, v9 + (i64)v26 + 4));
 v25:;
     if (!(v36 == v35)) return 1;
-    u8 *v47 = at(ptr, v0 + 8);
-    u64 v49 = at(u64, v47 + 16);
-    if (v49 == 0) goto v51;
-    u8 *v53 = at(ptr_1, v47);
-    if (!((v10 + 1) < v49)) goto v57;
-    u64 v58 = v10 << 2;
-    v66 = v53 + v58; v67 = at(u16_1, v53 + v58 + 2) != 0; goto v44;
-v57:;
-    v66 = v53 + ((v49 + v10) << 1); v67 = 0;
-v44:;
-    if (v67 | (((u8)(at(u8, v66) | at(u8, v66 + 1))) != 0)) return 1;
-v51:;
-    u64 v75 = at(u64, v47 + 48);
-    if (v75 == 0) goto v41;
-    u8 *v79 = at(ptr_1, v47 + 32);
-    if (!((v10 + 1) < v75)) goto v83;
-    u64 v84 = v10 << 2;
-    v92 = v79 + v84; v93 = at(u16_1, v79 + v84 + 2) != 0; goto v45;
-v83:;
-    v92 = v79 + ((v75 + v10) << 1); v93 = 0;
-v45:;
-    if (v93 | (((u8)(at(u8, v92) | at(u8, v92 + 1))) != 0)) return 1;
+    u8 *v49 = at(ptr, v0 + 8);
+    u64 v51 = at(u64, v49 + 16);
+    if (v51 == 0) goto v53;
+    u8 *v55 = at(ptr_1, v49);
+    if (!((v10 + 1) < v51)) goto v59;
+    u64 v60 = v10 << 2;
+    v68 = v55 + v60; v69 = at(u16_1, v55 + v60 + 2) != 0; goto v46;
+v59:;
+    v68 = v55 + ((v51 + v10) << 1); v69 = 0;
+v46:;
+    if (v69 | (((u8)(at(u8, v68) | at(u8, v68 + 1))) != 0)) return 1;
+v53:;
+    u64 v77 = at(u64, v49 + 48);
+    if (v77 == 0) goto v79;
+    u8 *v82 = at(ptr_1, v49 + 32);
+    if (!((v10 + 1) < v77)) goto v86;
+    u64 v87 = v10 << 2;
+    v95 = v82 + v87; v96 = at(u16_1, v82 + v87 + 2) != 0; goto v47;
+v86:;
+    v95 = v82 + ((v77 + v10) << 1); v96 = 0;
+v47:;
+    if (v96 | (((u8)(at(u8, v95) | at(u8, v95 + 1))) != 0)) return 1;
+v79:;
+    if (!(at(u8, v49 + 144) == 1)) goto v44;
+    u8 *v110 = at(ptr_1, v49 + 168);
+    if (!(at(u8, v49 + 216) == 0)) goto v113;
+    u64 v114 = v10 << 1;
+    v134 = ((u64)bswap16(at(u16_1, v110 + (i64)v114))) << 1; v135 = ((u64)bswap16(at(u16_1, v110 + (i64)v114 + 2))) << 1; goto v41;
+v113:;
+    u64 v125 = v10 << 2;
+    v134 = (u64)bswap32(at(u32_1, v110 + (i64)v125)); v135 = (u64)bswap32(at(u32_1, v110 + (i64)v125 + 4));
 v41:;
-    if (!(at(u8, v47 + 72) == 1)) return 0;
-    u8 *v107 = at(ptr_1, v47 + 96);
-    if (!(at(u8, v47 + 144) == 0)) goto v110;
-    u64 v111 = v10 << 1;
-    v131 = ((u64)bswap16(at(u16_1, v107 + (i64)v111))) << 1; v132 = ((u64)bswap16(at(u16_1, v107 + (i64)v111 + 2))) << 1; goto v43;
-v110:;
-    u64 v122 = v10 << 2;
-    v131 = (u64)bswap32(at(u32_1, v107 + (i64)v122)); v132 = (u64)bswap32(at(u32_1, v107 + (i64)v122 + 4));
+    if (!(v135 == v134)) return 1;
+v44:;
+    if (!(at(u8, v49 + 80) == 1)) return 0;
+    u8 *v141 = at(ptr, v49 + 120);
+    u64 v143 = at(u64, v49 + 128);
+    u32 v145 = ((u32)v1) + 1;
+    u64 v146 = v10 * 0x12100000000u;
+    switch (v143) {
+    case 0: return 0;
+    case 1: goto v148;
+    default: v154 = v143; v156 = 0; goto v147;
+    }
+v147:;
+    u64 v158 = v154 >> 1;
+    u64 v159 = v158 + v156;
+    u64 v157 = (at(u64, v141 + (i64)(v159 << 3)) < v146) ? v159 : v156;
+    u64 v155 = v154 - v158;
+    if (v155 > 1) { v154 = v155; v156 = v157; goto v147; }
+    u64 v168 = at(u64, v141 + (i64)(v157 << 3));
+    u64 v170 = ((u64)v145) * 0x12100000000u;
+    v172 = v143; v174 = 0;
+v171:;
+    u64 v176 = v172 >> 1;
+    u64 v177 = v176 + v174;
+    u64 v175 = (at(u64, v141 + (i64)(v177 << 3)) < v170) ? v177 : v174;
+    u64 v173 = v172 - v176;
+    if (v173 > 1) { v172 = v173; v174 = v175; goto v171; }
+    v187 = v170; v188 = v157 + ((u64)(v168 < v146)); v189 = v175; goto v43;
+v148:;
+    v187 = ((u64)v145) * 0x12100000000u; v188 = (u64)(at(u64, v141) < v146); v189 = 0;
 v43:;
-    return v132 != v131;
+    return (v189 + ((u64)(at(u64, v141 + (i64)(v189 << 3)) < v187))) != v188;
 }
 
 static void font_subset_presence_mark_between(u8 *v0, u8 *v1, u16 v2, u16 v3) {
-    u64 v20, v75, v76, v107, v141, v124, v128, v166, v182, v187, v200, v204, v232, v266, v249, v253, v299, v314, v319, v332, v336, v276, v346;
+    u64 v20, v75, v76, v104, v106, v122, v124, v137, v138, v139, v168, v202, v185, v189, v226, v242, v247, v260, v264, v293, v327, v310, v314, v360, v375, v380, v393, v397, v337, v407;
     u8 *v45;
-    u8x16 v109, v168, v234, v301;
-    flag v139, v125, v147, v183, v199, v202, v210, v264, v250, v272, v315, v331, v334, v342;
-    u32x4 v130, v189, v255, v321;
+    u8x16 v170, v228, v295, v362;
+    flag v200, v186, v271, v243, v259, v262, v270, v325, v311, v333, v376, v392, v395, v403;
+    u32x4 v191, v249, v316, v382;
     u8 *v7 = at(ptr, at(ptr, v1) + 8);
     u8 v9 = at(u8, v7 + 70);
     u8 *v10 = at(ptr_1, v7);
     u16 v12 = at(u16_1, v10 + 4);
     u64 v14 = (u64)bswap16(v12);
-    if (v12 == 0) { v45 = (u8 *)table_d0e67785; goto v16; }
+    if (v12 == 0) { v45 = (u8 *)table_55ba7287; goto v16; }
     v20 = 0;
 v17:;
     u64 v22 = v20 << 4;
@@ -6098,7 +8692,7 @@ v17:;
     v45 = v10 + (i64)((u64)bswap32(at(u32_1, v10 + (i64)v22 + 20))); goto v16;
 v18:;
     u64 v19 = v20 + 1;
-    if (v19 == v14) v45 = (u8 *)table_d0e67785; else { v20 = v19; goto v17; }
+    if (v19 == v14) v45 = (u8 *)table_55ba7287; else { v20 = v19; goto v17; }
 v16:;
     u64 v46 = (u64)v2;
     if (!(v9 == 0)) goto v49;
@@ -6108,162 +8702,192 @@ v49:;
 v63:;
     if (!(v75 == v76)) goto v79;
     u8 *v81 = at(ptr, v1 + 8);
-    if (at(u8, v81 + 72) == 1) goto v79;
-    u8 *v86 = at(ptr_1, v81);
-    u64 v88 = at(u64, v81 + 16);
-    u64 v89 = (u64)v3;
-    if (v88 == 0) goto v91;
-    if (!(v88 > v89)) goto v95;
-    u64 v96 = v46 << 2;
-    u64 v98 = v89 - v46;
-    u64 v99 = v98 << 2;
-    if (v3 == v2) goto v91;
-    if (v99 < 16u) { v124 = 0; v125 = 0; goto v103; }
-    u64 v105 = v99 & 0xfffffffffffffff0u;
-    v107 = 0; v109 = (u8x16){0};
-v106:;
-    u8x16 v110 = v109 | ((u8x16)(at(u8x16_1, (v86 + (i64)v96) + v107) != (u8x16){0}));
-    u64 v108 = v107 + 16u;
-    if (!(v108 == v105)) { v107 = v108; v109 = v110; goto v106; }
-    flag v117 = bits_u8x16(v110) != 0;
-    if (v99 == v105) { v147 = v117; goto v119; }
-    if ((v98 & 3) == 0) { v139 = v117; v141 = v105; } else { v124 = v105; v125 = v117; goto v103; }
-v123:;
-    flag v140 = v139 | (at(u8, (v86 + (i64)v96) + v141) != 0);
-    u64 v142 = v141 + 1;
-    if (v142 == v99) { v147 = v140; goto v119; }
-    v139 = v140; v141 = v142; goto v123;
+    if (at(u8, v81 + 144) == 1) goto v79;
+    if (!(at(u8, v81 + 80) == 1)) goto v90;
+    u8 *v92 = at(ptr, v81 + 120);
+    u64 v94 = at(u64, v81 + 128);
+    u64 v95 = v46 * 0x12100000000u;
+    switch (v94) {
+    case 0: goto v90;
+    case 1: goto v97;
+    default: v104 = v94; v106 = 0; goto v96;
+    }
+v96:;
+    u64 v108 = v104 >> 1;
+    u64 v109 = v108 + v106;
+    u64 v107 = (at(u64, v92 + (i64)(v109 << 3)) < v95) ? v109 : v106;
+    u64 v105 = v104 - v108;
+    if (v105 > 1) { v104 = v105; v106 = v107; goto v96; }
+    u64 v118 = at(u64, v92 + (i64)(v107 << 3));
+    u64 v120 = ((u64)v3) * 0x12100000000u;
+    v122 = v94; v124 = 0;
+v121:;
+    u64 v126 = v122 >> 1;
+    u64 v127 = v126 + v124;
+    u64 v125 = (at(u64, v92 + (i64)(v127 << 3)) < v120) ? v127 : v124;
+    u64 v123 = v122 - v126;
+    if (v123 > 1) { v122 = v123; v124 = v125; goto v121; }
+    v137 = v120; v138 = v107 + ((u64)(v118 < v95)); v139 = v125; goto v103;
+v97:;
+    v137 = ((u64)v3) * 0x12100000000u; v138 = (u64)(at(u64, v92) < v95); v139 = 0;
 v103:;
-    v128 = v124; v130 = (u32x4){-(u32)v125, 0, 0, 0};
-v127:;
-    u32x4 v131 = v130 | ((u32x4)__builtin_convertvector((i8x4)(u8x4)(at(u8x4_1, (v86 + (i64)v96) + v128) != (u8x4){0}), i32x4));
-    u64 v129 = v128 + 4;
-    if (!(v129 == v99)) { v128 = v129; v130 = v131; goto v127; }
-    v147 = bits_u32x4(v131) != 0;
-v119:;
-    if (v147) goto v79;
-    goto v91;
-v95:;
-    if (v88 > (v46 + 1)) goto v79;
-    u64 v152 = (v88 + v46) << 1;
-    u64 v154 = v89 - v46;
-    u64 v155 = v154 << 1;
-    if (v3 == v2) goto v91;
-    if (v155 < 4) { v199 = 0; v200 = 0; goto v159; }
-    if (v155 < 16u) { v182 = 0; v183 = 0; goto v162; }
-    u64 v164 = v155 & 0xfffffffffffffff0u;
-    v166 = 0; v168 = (u8x16){0};
-v165:;
-    u8x16 v169 = v168 | ((u8x16)(at(u8x16_1, (v86 + (i64)v152) + v166) != (u8x16){0}));
-    u64 v167 = v166 + 16u;
-    if (!(v167 == v164)) { v166 = v167; v168 = v169; goto v165; }
-    flag v176 = bits_u8x16(v169) != 0;
-    if (v155 == v164) { v210 = v176; goto v178; }
-    if ((v154 & 6) == 0) { v199 = v176; v200 = v164; goto v159; }
-    v182 = v164; v183 = v176;
-v162:;
-    u64 v184 = v155 & 0xfffffffffffffffcu;
-    v187 = v182; v189 = (u32x4){-(u32)v183, 0, 0, 0};
-v186:;
-    u32x4 v190 = v189 | ((u32x4)__builtin_convertvector((i8x4)(u8x4)(at(u8x4_1, (v86 + (i64)v152) + v187) != (u8x4){0}), i32x4));
-    u64 v188 = v187 + 4;
-    if (!(v188 == v184)) { v187 = v188; v189 = v190; goto v186; }
-    flag v197 = bits_u32x4(v190) != 0;
-    if (v155 == v184) { v210 = v197; goto v178; }
-    v199 = v197; v200 = v184;
-v159:;
-    v202 = v199; v204 = v200;
-v201:;
-    flag v203 = v202 | (at(u8, (v86 + (i64)v152) + v204) != 0);
-    u64 v205 = v204 + 1;
-    if (v205 == v155) v210 = v203; else { v202 = v203; v204 = v205; goto v201; }
-v178:;
-    if (v210) goto v79;
-v91:;
-    u8 *v212 = at(ptr_1, v81 + 32);
-    u64 v214 = at(u64, v81 + 48);
-    if (v214 == 0) return;
-    if (!(v214 > v89)) goto v220;
-    u64 v221 = v46 << 2;
-    u64 v223 = v89 - v46;
-    u64 v224 = v223 << 2;
+    if (!((v139 + ((u64)(at(u64, v92 + (i64)(v139 << 3)) < v137))) == v138)) goto v79;
+v90:;
+    u8 *v147 = at(ptr_1, v81);
+    u64 v149 = at(u64, v81 + 16);
+    u64 v150 = (u64)v3;
+    if (v149 == 0) goto v152;
+    if (!(v149 > v150)) goto v156;
+    u64 v157 = v46 << 2;
+    u64 v159 = v150 - v46;
+    u64 v160 = v159 << 2;
+    if (v3 == v2) goto v152;
+    if (v160 < 16u) { v185 = 0; v186 = 0; goto v164; }
+    u64 v166 = v160 & 0xfffffffffffffff0u;
+    v168 = 0; v170 = (u8x16){0};
+v167:;
+    u8x16 v171 = v170 | ((u8x16)(at(u8x16_1, (v147 + (i64)v157) + v168) != (u8x16){0}));
+    u64 v169 = v168 + 16u;
+    if (!(v169 == v166)) { v168 = v169; v170 = v171; goto v167; }
+    flag v178 = bits_u8x16(v171) != 0;
+    if (v160 == v166) { v271 = v178; goto v180; }
+    if ((v159 & 3) == 0) { v200 = v178; v202 = v166; } else { v185 = v166; v186 = v178; goto v164; }
+v184:;
+    flag v201 = v200 | (at(u8, (v147 + (i64)v157) + v202) != 0);
+    u64 v203 = v202 + 1;
+    if (v203 == v160) { v271 = v201; goto v180; }
+    v200 = v201; v202 = v203; goto v184;
+v164:;
+    v189 = v185; v191 = (u32x4){-(u32)v186, 0, 0, 0};
+v188:;
+    u32x4 v192 = v191 | ((u32x4)__builtin_convertvector((i8x4)(u8x4)(at(u8x4_1, (v147 + (i64)v157) + v189) != (u8x4){0}), i32x4));
+    u64 v190 = v189 + 4;
+    if (!(v190 == v160)) { v189 = v190; v191 = v192; goto v188; }
+    v271 = bits_u32x4(v192) != 0;
+v180:;
+    if (v271) goto v79;
+    goto v152;
+v156:;
+    if (v149 > (v46 + 1)) goto v79;
+    u64 v212 = (v149 + v46) << 1;
+    u64 v214 = v150 - v46;
+    u64 v215 = v214 << 1;
+    if (v3 == v2) goto v152;
+    if (v215 < 4) { v259 = 0; v260 = 0; goto v219; }
+    if (v215 < 16u) { v242 = 0; v243 = 0; goto v222; }
+    u64 v224 = v215 & 0xfffffffffffffff0u;
+    v226 = 0; v228 = (u8x16){0};
+v225:;
+    u8x16 v229 = v228 | ((u8x16)(at(u8x16_1, (v147 + (i64)v212) + v226) != (u8x16){0}));
+    u64 v227 = v226 + 16u;
+    if (!(v227 == v224)) { v226 = v227; v228 = v229; goto v225; }
+    flag v236 = bits_u8x16(v229) != 0;
+    if (v215 == v224) { v270 = v236; goto v238; }
+    if ((v214 & 6) == 0) { v259 = v236; v260 = v224; goto v219; }
+    v242 = v224; v243 = v236;
+v222:;
+    u64 v244 = v215 & 0xfffffffffffffffcu;
+    v247 = v242; v249 = (u32x4){-(u32)v243, 0, 0, 0};
+v246:;
+    u32x4 v250 = v249 | ((u32x4)__builtin_convertvector((i8x4)(u8x4)(at(u8x4_1, (v147 + (i64)v212) + v247) != (u8x4){0}), i32x4));
+    u64 v248 = v247 + 4;
+    if (!(v248 == v244)) { v247 = v248; v249 = v250; goto v246; }
+    flag v257 = bits_u32x4(v250) != 0;
+    if (v215 == v244) { v270 = v257; goto v238; }
+    v259 = v257; v260 = v244;
+v219:;
+    v262 = v259; v264 = v260;
+v261:;
+    flag v263 = v262 | (at(u8, (v147 + (i64)v212) + v264) != 0);
+    u64 v265 = v264 + 1;
+    if (v265 == v215) v270 = v263; else { v262 = v263; v264 = v265; goto v261; }
+v238:;
+    if (v270) goto v79;
+v152:;
+    u8 *v273 = at(ptr_1, v81 + 32);
+    u64 v275 = at(u64, v81 + 48);
+    if (v275 == 0) return;
+    if (!(v275 > v150)) goto v281;
+    u64 v282 = v46 << 2;
+    u64 v284 = v150 - v46;
+    u64 v285 = v284 << 2;
     if (v3 == v2) return;
-    if (v224 < 16u) { v249 = 0; v250 = 0; goto v228; }
-    u64 v230 = v224 & 0xfffffffffffffff0u;
-    v232 = 0; v234 = (u8x16){0};
-v231:;
-    u8x16 v235 = v234 | ((u8x16)(at(u8x16_1, (v212 + (i64)v221) + v232) != (u8x16){0}));
-    u64 v233 = v232 + 16u;
-    if (!(v233 == v230)) { v232 = v233; v234 = v235; goto v231; }
-    flag v242 = bits_u8x16(v235) != 0;
-    if (v224 == v230) { v272 = v242; goto v244; }
-    if ((v223 & 3) == 0) { v264 = v242; v266 = v230; } else { v249 = v230; v250 = v242; goto v228; }
-v248:;
-    flag v265 = v264 | (at(u8, (v212 + (i64)v221) + v266) != 0);
-    u64 v267 = v266 + 1;
-    if (v267 == v224) { v272 = v265; goto v244; }
-    v264 = v265; v266 = v267; goto v248;
-v228:;
-    v253 = v249; v255 = (u32x4){-(u32)v250, 0, 0, 0};
-v252:;
-    u32x4 v256 = v255 | ((u32x4)__builtin_convertvector((i8x4)(u8x4)(at(u8x4_1, (v212 + (i64)v221) + v253) != (u8x4){0}), i32x4));
-    u64 v254 = v253 + 4;
-    if (!(v254 == v224)) { v253 = v254; v255 = v256; goto v252; }
-    v272 = bits_u32x4(v256) != 0;
-v244:;
-    if (v272 & (v2 < v3)) { v276 = v89; goto v275; }
-    return;
-v220:;
-    if (v214 > (v46 + 1)) goto v79;
-    u64 v285 = (v214 + v46) << 1;
-    u64 v287 = v89 - v46;
-    u64 v288 = v287 << 1;
-    if (v3 == v2) return;
-    if (v288 < 4) { v331 = 0; v332 = 0; goto v292; }
-    if (v288 < 16u) { v314 = 0; v315 = 0; goto v295; }
-    u64 v297 = v288 & 0xfffffffffffffff0u;
-    v299 = 0; v301 = (u8x16){0};
-v298:;
-    u8x16 v302 = v301 | ((u8x16)(at(u8x16_1, (v212 + (i64)v285) + v299) != (u8x16){0}));
-    u64 v300 = v299 + 16u;
-    if (!(v300 == v297)) { v299 = v300; v301 = v302; goto v298; }
-    flag v309 = bits_u8x16(v302) != 0;
-    if (v288 == v297) { v342 = v309; goto v279; }
-    if ((v287 & 6) == 0) { v331 = v309; v332 = v297; goto v292; }
-    v314 = v297; v315 = v309;
-v295:;
-    u64 v316 = v288 & 0xfffffffffffffffcu;
-    v319 = v314; v321 = (u32x4){-(u32)v315, 0, 0, 0};
-v318:;
-    u32x4 v322 = v321 | ((u32x4)__builtin_convertvector((i8x4)(u8x4)(at(u8x4_1, (v212 + (i64)v285) + v319) != (u8x4){0}), i32x4));
-    u64 v320 = v319 + 4;
-    if (!(v320 == v316)) { v319 = v320; v321 = v322; goto v318; }
-    flag v329 = bits_u32x4(v322) != 0;
-    if (v288 == v316) { v342 = v329; goto v279; }
-    v331 = v329; v332 = v316;
+    if (v285 < 16u) { v310 = 0; v311 = 0; goto v289; }
+    u64 v291 = v285 & 0xfffffffffffffff0u;
+    v293 = 0; v295 = (u8x16){0};
 v292:;
-    v334 = v331; v336 = v332;
-v333:;
-    flag v335 = v334 | (at(u8, (v212 + (i64)v285) + v336) != 0);
-    u64 v337 = v336 + 1;
-    if (v337 == v288) v342 = v335; else { v334 = v335; v336 = v337; goto v333; }
-v279:;
-    if (v342 & (v2 < v3)) { v276 = v89; goto v275; }
+    u8x16 v296 = v295 | ((u8x16)(at(u8x16_1, (v273 + (i64)v282) + v293) != (u8x16){0}));
+    u64 v294 = v293 + 16u;
+    if (!(v294 == v291)) { v293 = v294; v295 = v296; goto v292; }
+    flag v303 = bits_u8x16(v296) != 0;
+    if (v285 == v291) { v333 = v303; goto v305; }
+    if ((v284 & 3) == 0) { v325 = v303; v327 = v291; } else { v310 = v291; v311 = v303; goto v289; }
+v309:;
+    flag v326 = v325 | (at(u8, (v273 + (i64)v282) + v327) != 0);
+    u64 v328 = v327 + 1;
+    if (v328 == v285) { v333 = v326; goto v305; }
+    v325 = v326; v327 = v328; goto v309;
+v289:;
+    v314 = v310; v316 = (u32x4){-(u32)v311, 0, 0, 0};
+v313:;
+    u32x4 v317 = v316 | ((u32x4)__builtin_convertvector((i8x4)(u8x4)(at(u8x4_1, (v273 + (i64)v282) + v314) != (u8x4){0}), i32x4));
+    u64 v315 = v314 + 4;
+    if (!(v315 == v285)) { v314 = v315; v316 = v317; goto v313; }
+    v333 = bits_u32x4(v317) != 0;
+v305:;
+    if (v333 & (v2 < v3)) { v337 = v150; goto v336; }
+    return;
+v281:;
+    if (v275 > (v46 + 1)) goto v79;
+    u64 v346 = (v275 + v46) << 1;
+    u64 v348 = v150 - v46;
+    u64 v349 = v348 << 1;
+    if (v3 == v2) return;
+    if (v349 < 4) { v392 = 0; v393 = 0; goto v353; }
+    if (v349 < 16u) { v375 = 0; v376 = 0; goto v356; }
+    u64 v358 = v349 & 0xfffffffffffffff0u;
+    v360 = 0; v362 = (u8x16){0};
+v359:;
+    u8x16 v363 = v362 | ((u8x16)(at(u8x16_1, (v273 + (i64)v346) + v360) != (u8x16){0}));
+    u64 v361 = v360 + 16u;
+    if (!(v361 == v358)) { v360 = v361; v362 = v363; goto v359; }
+    flag v370 = bits_u8x16(v363) != 0;
+    if (v349 == v358) { v403 = v370; goto v340; }
+    if ((v348 & 6) == 0) { v392 = v370; v393 = v358; goto v353; }
+    v375 = v358; v376 = v370;
+v356:;
+    u64 v377 = v349 & 0xfffffffffffffffcu;
+    v380 = v375; v382 = (u32x4){-(u32)v376, 0, 0, 0};
+v379:;
+    u32x4 v383 = v382 | ((u32x4)__builtin_convertvector((i8x4)(u8x4)(at(u8x4_1, (v273 + (i64)v346) + v380) != (u8x4){0}), i32x4));
+    u64 v381 = v380 + 4;
+    if (!(v381 == v377)) { v380 = v381; v382 = v383; goto v379; }
+    flag v390 = bits_u32x4(v383) != 0;
+    if (v349 == v377) { v403 = v390; goto v340; }
+    v392 = v390; v393 = v377;
+v353:;
+    v395 = v392; v397 = v393;
+v394:;
+    flag v396 = v395 | (at(u8, (v273 + (i64)v346) + v397) != 0);
+    u64 v398 = v397 + 1;
+    if (v398 == v349) v403 = v396; else { v395 = v396; v397 = v398; goto v394; }
+v340:;
+    if (v403 & (v2 < v3)) { v337 = v150; goto v336; }
     return;
 v79:;
     if (!(v2 < v3)) return;
-    v276 = (u64)v3;
-v275:;
-    v346 = v46;
-v280:;
-    if (!(v346 < ((u64)at(u16, at(ptr, at(ptr, v1) + 8) + 64)))) goto v348;
-    u8 *v357 = at(ptr, v0);
-    if (at(u8, v357 + (i64)v346) & 1) goto v348;
-    if (!font_subset_presence_Presence_has(v1, (u16)v346)) goto v348;
-    at(u8, v357 + (i64)v346) = 1;
-v348:;
-    u64 v347 = v346 + 1;
-    if (v347 < v276) { v346 = v347; goto v280; }
+    v337 = (u64)v3;
+v336:;
+    v407 = v46;
+v341:;
+    if (!(v407 < ((u64)at(u16, at(ptr, at(ptr, v1) + 8) + 64)))) goto v409;
+    u8 *v418 = at(ptr, v0);
+    if (at(u8, v418 + (i64)v407) & 1) goto v409;
+    if (!font_subset_presence_Presence_has(v1, (u16)v407)) goto v409;
+    at(u8, v418 + (i64)v407) = 1;
+v409:;
+    u64 v408 = v407 + 1;
+    if (v408 < v337) { v407 = v408; goto v341; }
     return;
 }
 
@@ -6861,7 +9485,7 @@ static void font_subset_selection_mark_roots(u8 *v0, u8 *v1, u8 *v2, u8 *v3) {
     if (at(u8, v2) == 0) { v63 = v15; goto v18; }
     if (!(v9 == 1)) goto v23;
     at(ptr, v7) = v2;
-    at(ptr, v7 + 8) = v2 + 312;
+    at(ptr, v7 + 8) = v2 + 344;
     if (v13 == 0) goto v26;
     u8 *v29 = at(ptr, v5);
     v31 = 0;
@@ -6878,7 +9502,7 @@ v33:;
     v31 = v32; goto v30;
 v23:;
     at(ptr, v8) = v2;
-    at(ptr, v8 + 8) = v2 + 312;
+    at(ptr, v8 + 8) = v2 + 344;
     u16 v54 = at(u16, at(ptr, v2 + 8) + 64);
     if (v54 > 64u) v58 = 0; else { v62 = 0; goto v57; }
 v56:;
@@ -6977,7 +9601,7 @@ v169:;
     u64 v190 = (u64)bswap32(v178);
     u64 v192 = v2 - v190;
     u64 v197 = (((u64)bswap16(v22)) << 1) * ((u64)v47);
-    if (v197 == 0) { v206 = (u8 *)table_d0e67785; goto v199; }
+    if (v197 == 0) { v206 = (u8 *)table_55ba7287; goto v199; }
     v206 = v1 + (i64)((u64)bswap32(at(u32_1, v1 + 8)));
 v199:;
     at(u64_1, v0) = 1;
@@ -7543,417 +10167,440 @@ v9:;
 }
 
 void font_write_plan_plan_of(u8 *v0, u8 *v1, u8 v2, u8 *v3) {
-    _Alignas(4) u8 v5[64], v6[20], v7[32], v9[4], v10[4], v11[4], v15[348], v19[348], v20[348];
-    u8 v8[12], v16[351], *v610, *v615, *v623, *v138, *v266, *v271, *v279, *v369, *v380, *v418, *v423, *v431, *v723, *v797;
-    _Alignas(8) u8 v12[48], v13[24], v14[16], v18[16];
-    _Alignas(2) u8 v17[22];
-    u64 v106, v597, v611, v617, v622, v124, v140, v162, v169, v182, v185, v192, v207, v233, v234, v253, v267, v273, v278, v296, v303, v316, v319, v208, v339, v370, v382, v405, v419, v425, v430, v455, v462, v475, v478, v485, v542, v549, v562, v565, v572, v639, v689, v725, v766;
-    u32x4 v599, v126, v255, v407;
-    u32 v609, v613, v624, v136, v204, v265, v269, v280, v378, v417, v421, v432, v495, v498, v524, v525, v628, v629, v630, v721, v761, v764, v804, v805;
-    u8x16 v171, v305, v464, v551;
-    u16 v500, v687, v709, v710, v711;
-    u16x8 v641;
-    memset(v16, 0, 351u);
-    memset(v17, 0, 22u);
-    memset(v19, 0, 348u);
+    _Alignas(4) u8 v5[64], v6[20], v7[32], v9[4], v10[4], v11[4], v12[4], v16[348], v20[348], v21[348];
+    u8 v8[12], v17[351], *v687, *v692, *v700, *v125, *v168, *v204, *v209, *v217, *v343, *v348, *v356, *v446, *v457, *v495, *v500, *v508, *v800, *v874;
+    _Alignas(8) u8 v13[56], v14[24], v15[16], v19[16];
+    _Alignas(2) u8 v18[22];
+    u64 v89, v674, v688, v694, v699, v126, v154, v170, v191, v205, v211, v216, v239, v246, v259, v262, v269, v284, v310, v311, v330, v344, v350, v355, v373, v380, v393, v396, v285, v416, v447, v459, v482, v496, v502, v507, v532, v539, v552, v555, v562, v619, v626, v639, v642, v649, v716, v766, v802, v843;
+    u32x4 v676, v156, v193, v332, v484;
+    u32 v686, v690, v701, v166, v203, v207, v218, v281, v342, v346, v357, v455, v494, v498, v509, v572, v575, v601, v602, v705, v706, v707, v798, v838, v841, v881, v882;
+    u8x16 v248, v382, v541, v628;
+    u16 v577, v764, v786, v787, v788;
+    u16x8 v718;
+    memset(v17, 0, 351u);
+    memset(v18, 0, 22u);
     memset(v20, 0, 348u);
-    memcpy(v18, v3, 16u);
-    memcpy(v14, v3, 16u);
-    flag v24 = v2 == 0;
-    u8 v25 = v24 ? 1 : 2;
-    u8 v26 = v24 ? 3 : 0;
-    u8 v27 = v24 ? 10u : 4;
-    u8 v28 = v24 ? 12u : 20u;
-    u8 v29 = v24 ? 12u : 3;
-    u8 v30 = v24 ? 0 : 10u;
-    u8 v31 = v24 ? 0 : 12u;
-    u64 v32 = v24 ? 28u : 36u;
-    memset(v15, 0, 348u);
-    u32 v65 = at(u32, v14);
-    u32 v67 = at(u32, v14 + 4);
-    u32 v70 = bswap32((v65 * 12u) + 16u);
-    u8 v71 = (u8)v70;
-    u8 v73 = (u8)(v70 >> 8);
-    u8 v75 = (u8)(v70 >> 16u);
-    u8 v77 = (u8)(v70 >> 24u);
-    u32 v78 = bswap32(v65);
+    memset(v21, 0, 348u);
+    memcpy(v19, v3, 16u);
+    memcpy(v15, v3, 16u);
+    flag v30 = v2 == 0;
+    u8 v31 = v30 ? 1 : 2;
+    u8 v32 = v30 ? 12u : 20u;
+    u8 v33 = v30 ? 12u : 3;
+    u8 v34 = v30 ? 0 : 10u;
+    u8 v35 = v30 ? 0 : 12u;
+    u64 v36 = v30 ? 28u : 36u;
+    memset(v16, 0, 348u);
+    u32 v69 = at(u32, v15);
+    u32 v71 = at(u32, v15 + 4);
+    u32 v72 = v69 * 12u;
+    u32 v74 = bswap32(v72 + 16u);
+    u32 v75 = bswap32(v69);
+    u32 v77 = bswap32(v72 + 44u);
+    u32 v78 = v30 ? v75 : v74;
     u8 v79 = (u8)v78;
     u8 v81 = (u8)(v78 >> 8);
     u8 v83 = (u8)(v78 >> 16u);
     u8 v85 = (u8)(v78 >> 24u);
-    u8 v86 = v24 ? v71 : 0;
-    u8 v87 = v24 ? v73 : 0;
-    u8 v88 = v24 ? v75 : 0;
-    u8 v89 = v24 ? v77 : 20u;
-    u8 v90 = v24 ? v79 : v71;
-    u8 v91 = v24 ? v81 : v73;
-    u8 v92 = v24 ? v83 : v75;
-    u8 v93 = v24 ? v85 : v77;
-    u8 v94 = v24 ? 0 : v79;
-    u8 v95 = v24 ? 0 : v81;
-    u8 v96 = v24 ? 0 : v83;
-    u8 v97 = v24 ? 0 : v85;
-    u64 v100 = ((v32 + 60u) >> 2) & 12u;
-    u64 v101 = v100 << 2;
-    u64 v104 = v32 - (v100 << 2);
-    v106 = 0;
-v105:;
-    u64 v111 = at(u64, (u8 *)table_faed1f12 + (v106 << 3));
-    u8_u64 v112 = font_write_size_table_length_a65d(v1, v2, v14, v111);
-    u8 v113 = v112._0;
-    if (!(v113 == 1)) { v629 = 0; v630 = 0; goto v108; }
-    u32 v117 = (u32)v112._1;
-    memset(v13, 0, 24u);
-    switch (v111) {
-    case 1: goto v119;
-    case 5: goto v120;
-    case 6: goto v121;
-    case 9: goto v122;
-    default: goto v118;
+    u32 v86 = v30 ? v74 : 335544320u;
+    u32 v87 = v30 ? 0 : v75;
+    v89 = 0;
+v88:;
+    u64 v94 = at(u64, (u8 *)table_faed1f12 + (v89 << 3));
+    u8_u64 v95 = font_write_size_table_length_a65d(v1, v2, v15, v94);
+    u8 v96 = v95._0;
+    if (!(v96 == 1)) { v706 = 0; v707 = 0; goto v91; }
+    u32 v100 = (u32)v95._1;
+    memset(v14, 0, 24u);
+    switch (v94) {
+    case 1: goto v102;
+    case 5: goto v103;
+    case 6: goto v104;
+    case 9: goto v105;
+    default: goto v101;
     }
-v118:;
-    font_subset_kind_source_CutOfKindSource_copied(v13, v1, v111);
-    if (!(at(u8, v13) == 1)) { v628 = 0; goto v147; }
-    u8 *v580 = at(ptr, v13 + 8);
-    u64 v581 = at(u64, v13 + 16);
-    if (!(v581 > 3)) { v622 = v581; v623 = v580; v624 = 0; goto v584; }
-    u64 v585 = v581 - 4;
-    u64 v587 = (v585 >> 2) + 1;
-    if (v585 < 12u) { v609 = 0; v610 = v580; v611 = v581; goto v589; }
-    u64 v591 = v587 & 0x7ffffffffffffffcu;
-    u64 v592 = v591 << 2;
-    u64 v595 = v581 - (v591 << 2);
-    v597 = 0; v599 = (u32x4){0};
-v596:;
-    u32x4 v600 = bswap_u32x4(at(u32x4_1, v580 + (i64)(v597 << 2))) + v599;
-    u64 v598 = v597 + 4;
-    if (!(v598 == v591)) { v597 = v598; v599 = v600; goto v596; }
-    u32 v607 = sum_u32x4(v600);
-    if (v587 == v591) { v622 = v595; v623 = v580 + (i64)v592; v624 = v607; goto v584; }
-    v609 = v607; v610 = v580 + (i64)v592; v611 = v595;
-v589:;
-    v613 = v609; v615 = v610; v617 = v611;
-v612:;
-    u32 v614 = bswap32(at(u32_1, v615)) + v613;
-    u64 v618 = v617 - 4;
-    if (v618 > 3) { v613 = v614; v615 = v615 + 4; v617 = v618; goto v612; }
-    v622 = v618; v623 = v615 + 4; v624 = v614;
-v584:;
+v101:;
+    font_subset_kind_source_CutOfKindSource_copied(v14, v1, v94);
+    if (!(at(u8, v14) == 1)) { v705 = 0; goto v224; }
+    u8 *v657 = at(ptr, v14 + 8);
+    u64 v658 = at(u64, v14 + 16);
+    if (!(v658 > 3)) { v699 = v658; v700 = v657; v701 = 0; goto v661; }
+    u64 v662 = v658 - 4;
+    u64 v664 = (v662 >> 2) + 1;
+    if (v662 < 12u) { v686 = 0; v687 = v657; v688 = v658; goto v666; }
+    u64 v668 = v664 & 0x7ffffffffffffffcu;
+    u64 v669 = v668 << 2;
+    u64 v672 = v658 - (v668 << 2);
+    v674 = 0; v676 = (u32x4){0};
+v673:;
+    u32x4 v677 = bswap_u32x4(at(u32x4_1, v657 + (i64)(v674 << 2))) + v676;
+    u64 v675 = v674 + 4;
+    if (!(v675 == v668)) { v674 = v675; v676 = v677; goto v673; }
+    u32 v684 = sum_u32x4(v677);
+    if (v664 == v668) { v699 = v672; v700 = v657 + (i64)v669; v701 = v684; goto v661; }
+    v686 = v684; v687 = v657 + (i64)v669; v688 = v672;
+v666:;
+    v690 = v686; v692 = v687; v694 = v688;
+v689:;
+    u32 v691 = bswap32(at(u32_1, v692)) + v690;
+    u64 v695 = v694 - 4;
+    if (v695 > 3) { v690 = v691; v692 = v692 + 4; v694 = v695; goto v689; }
+    v699 = v695; v700 = v692 + 4; v701 = v691;
+v661:;
     at(u32, v9) = 0;
-    memcpy_any(v9, v623, v622);
-    v628 = bswap32(at(u32, v9)) + v624; goto v147;
-v119:;
-    at(u64, v12) = 0;
-    at(u8, v12 + 3) = v25;
-    at(u8, v12 + 5) = v26;
-    at(u8, v12 + 7) = v27;
-    at(u8, v12 + 8) = 0;
-    at(u8, v12 + 9) = 0;
-    at(u8, v12 + 10) = 0;
-    at(u8, v12 + 11) = v28;
-    at(u8, v12 + 12) = 0;
-    at(u8, v12 + 13) = v29;
-    at(u8, v12 + 14) = 0;
-    at(u8, v12 + 15) = v30;
-    at(u8, v12 + 16) = v86;
-    at(u8, v12 + 17) = v87;
-    at(u8, v12 + 18) = v88;
-    at(u8, v12 + 19) = v89;
-    at(u8, v12 + 20) = 0;
-    at(u8, v12 + 21) = v31;
-    at(u8, v12 + 22) = 0;
-    at(u8, v12 + 23) = 0;
-    at(u8, v12 + 24) = v90;
-    at(u8, v12 + 25) = v91;
-    at(u8, v12 + 26) = v92;
-    at(u8, v12 + 27) = v93;
-    at(u32, v12 + 28) = 0;
-    at(u8, v12 + 32) = v94;
-    at(u8, v12 + 33) = v95;
-    at(u8, v12 + 34) = v96;
-    at(u8, v12 + 35) = v97;
-    at(u32, v12 + 36) = 0;
-    at(u64, v12 + 40) = v32;
-    v124 = 0; v126 = (u32x4){0};
-v123:;
-    u32x4 v127 = bswap_u32x4(at(u32x4_8, v12 + (i64)(v124 << 2))) + v126;
-    u64 v125 = v124 + 4;
-    if (!(v125 == v100)) { v124 = v125; v126 = v127; goto v123; }
-    v136 = sum_u32x4(v127); v138 = v12 + (i64)v101; v140 = v104;
-v135:;
-    u32 v137 = bswap32(at(u32_1, v138)) + v136;
-    u64 v141 = v140 - 4;
-    if (!(v141 == 0)) { v136 = v137; v138 = v138 + 4; v140 = v141; goto v135; }
-    v628 = v137 + v67; goto v147;
-v120:;
-    u8 *v148 = at(ptr, v1 + 8);
-    u16 v150 = at(u16, v148 + 64);
-    u8 *v151 = at(ptr, v1 + 168);
-    u64 v152 = at(u64, v1 + 176);
-    if (v152 == 0) { v182 = 0; goto v154; }
-    if (at(u8, v151) & 1) { v192 = 0; goto v158; }
-    if (v152 < 64u) { v182 = 0; goto v154; }
-    v162 = 0;
-v161:;
-    if (v162 == 0xffffffffffffffc0u) goto v164;
-    v169 = 0; v171 = (u8x16){0};
-v168:;
-    u8x16 v172 = v171 | ((-(at(u8x16_1, (v151 + (i64)v162) + (i64)v169) & 1)));
-    u64 v170 = v169 + 16u;
-    if (!(v170 == 64u)) { v169 = v170; v171 = v172; goto v168; }
-    if (!(bits_u8x16(v172) == 0)) { v182 = v162; goto v154; }
-v164:;
-    u64 v163 = v162 + 64u;
-    if ((v152 - v163) < 64u) v182 = v163; else { v162 = v163; goto v161; }
-v154:;
-    if (v182 < v152) v185 = v182; else { v192 = v152; goto v158; }
-v184:;
-    if (at(u8, v151 + v185) & 1) { v192 = v185; goto v158; }
-    u64 v186 = v185 + 1;
-    if (v186 == v152) v192 = v152; else { v185 = v186; goto v184; }
-v158:;
-    if (!(v150 > ((u16)v192))) { v628 = 0; goto v147; }
-    u8 *v199 = at(ptr_1, v148 + 32);
-    u8 *v201 = at(ptr_1, v148 + 48);
-    flag v202 = at(u8, v148 + 70) == 0;
-    v204 = 0; v207 = v192;
-v203:;
-    u64 v209 = v207 & 65535u;
-    if (!v202) goto v211;
-    u64 v212 = v209 << 1;
-    v233 = ((u64)bswap16(at(u16_1, v199 + (i64)v212))) << 1; v234 = ((u64)bswap16(at(u16_1, v199 + (i64)v212 + 2))) << 1; goto v223;
-v211:;
-    u64 v224 = v209 << 2;
-    v233 = (u64)bswap32(at(u32_1, v199 + (i64)v224)); v234 = (u64)bswap32(at(u32_1, v199 + (i64)v224 + 4));
-v223:;
-    u64 v236 = v234 - v233;
-    if (!(v236 > 3)) { v278 = v236; v279 = v201 + (i64)v233; v280 = 0; goto v239; }
-    u64 v241 = (v234 - 4) - v233;
-    u64 v243 = (v241 >> 2) + 1;
-    if (v241 < 12u) { v265 = 0; v266 = v201 + (i64)v233; v267 = v236; goto v245; }
-    u64 v247 = v243 & 0x7ffffffffffffffcu;
-    u64 v248 = v247 << 2;
-    u64 v251 = v236 - (v247 << 2);
-    v253 = 0; v255 = (u32x4){0};
-v252:;
-    u32x4 v256 = bswap_u32x4(at(u32x4_1, (v201 + (i64)v233) + (i64)(v253 << 2))) + v255;
-    u64 v254 = v253 + 4;
-    if (!(v254 == v247)) { v253 = v254; v255 = v256; goto v252; }
-    u32 v263 = sum_u32x4(v256);
-    if (v243 == v247) { v278 = v251; v279 = (v201 + (i64)v233) + (i64)v248; v280 = v263; goto v239; }
-    v265 = v263; v266 = (v201 + (i64)v233) + (i64)v248; v267 = v251;
-v245:;
-    v269 = v265; v271 = v266; v273 = v267;
-v268:;
-    u32 v270 = bswap32(at(u32_1, v271)) + v269;
-    u64 v274 = v273 - 4;
-    if (v274 > 3) { v269 = v270; v271 = v271 + 4; v273 = v274; goto v268; }
-    v278 = v274; v279 = v271 + 4; v280 = v270;
-v239:;
-    at(u32, v11) = 0;
-    memcpy_any(v11, v279, v278);
-    u32 v205 = (v280 + v204) + bswap32(at(u32, v11));
-    u64 v285 = (v207 + 1) & 65535u;
-    if (!(v152 > v285)) goto v288;
-    if (at(u8, v151 + v285) & 1) { v208 = v285; goto v206; }
-v288:;
-    if ((v152 - v285) < 64u) { v316 = v285; goto v294; }
-    v296 = v285;
-v295:;
-    if (!(v296 < 0xffffffffffffffc0u)) goto v298;
-    v303 = 0; v305 = (u8x16){0};
-v302:;
-    u8x16 v306 = v305 | ((-(at(u8x16_1, (v151 + (i64)v296) + (i64)v303) & 1)));
-    u64 v304 = v303 + 16u;
-    if (!(v304 == 64u)) { v303 = v304; v305 = v306; goto v302; }
-    if (!(bits_u8x16(v306) == 0)) { v316 = v296; goto v294; }
-v298:;
-    u64 v297 = v296 + 64u;
-    if ((v152 - v297) < 64u) v316 = v297; else { v296 = v297; goto v295; }
-v294:;
-    if (v316 < v152) v319 = v316; else { v208 = v152; goto v206; }
-v318:;
-    if (at(u8, v151 + v319) & 1) { v208 = v319; goto v206; }
-    u64 v320 = v319 + 1;
-    if (v320 == v152) v208 = v152; else { v319 = v320; goto v318; }
+    memcpy_any(v9, v700, v699);
+    v705 = bswap32(at(u32, v9)) + v701; goto v224;
+v102:;
+    if (!(at(u8, v1 + 320) == 1)) goto v109;
+    v125 = at(ptr, v1 + 328); v126 = at(u64, v1 + 336); goto v112;
+v109:;
+    if (!(at(u8, v1 + 112) == 1)) { v125 = (u8 *)table_55ba7287; v126 = 0; goto v112; }
+    u8 *v116 = at(ptr, v1 + 120);
+    if (!(at(u8, v116 + 312) == 1)) { v125 = (u8 *)table_55ba7287; v126 = 0; goto v112; }
+    v125 = at(ptr, v116 + 320); v126 = at(u64, v116 + 328);
+v112:;
+    flag v127 = v126 == 0;
+    flag v129 = v127 & v30;
+    u64 v145 = v127 ? v36 : 44u;
+    at(u8, v13) = 0;
+    at(u8, v13 + 1) = 0;
+    at(u8, v13 + 2) = 0;
+    at(u8, v13 + 3) = v127 ? v31 : 3;
+    at(u8, v13 + 4) = 0;
+    at(u8, v13 + 5) = v129 ? 3 : 0;
+    at(u8, v13 + 6) = 0;
+    at(u8, v13 + 7) = v129 ? 10u : 4;
+    at(u8, v13 + 8) = 0;
+    at(u8, v13 + 9) = 0;
+    at(u8, v13 + 10) = 0;
+    at(u8, v13 + 11) = v127 ? v32 : 28u;
+    at(u8, v13 + 12) = 0;
+    at(u8, v13 + 13) = v127 ? v33 : 0;
+    at(u8, v13 + 14) = 0;
+    at(u8, v13 + 15) = v127 ? v34 : 5;
+    at(u32, v13 + 16) = v127 ? v86 : v77;
+    at(u8, v13 + 20) = 0;
+    at(u8, v13 + 21) = v127 ? v35 : 3;
+    at(u8, v13 + 22) = 0;
+    at(u8, v13 + 23) = v127 ? 0 : 10u;
+    at(u8, v13 + 24) = v127 ? v79 : 0;
+    at(u8, v13 + 25) = v127 ? v81 : 0;
+    at(u8, v13 + 26) = v127 ? v83 : 0;
+    at(u8, v13 + 27) = v127 ? v85 : 28u;
+    at(u32, v13 + 28) = v127 ? 0 : 3072u;
+    at(u32, v13 + 32) = v127 ? v87 : v74;
+    at(u32, v13 + 36) = 0;
+    at(u32, v13 + 40) = v127 ? 0 : v75;
+    at(u32, v13 + 44) = 0;
+    at(u64, v13 + 48) = v145;
+    u64 v148 = ((v145 + 60u) >> 2) & 12u;
+    u64 v149 = v148 << 2;
+    u64 v152 = v145 - (v148 << 2);
+    v154 = 0; v156 = (u32x4){0};
+v153:;
+    u32x4 v157 = bswap_u32x4(at(u32x4_8, v13 + (i64)(v154 << 2))) + v156;
+    u64 v155 = v154 + 4;
+    if (!(v155 == v148)) { v154 = v155; v156 = v157; goto v153; }
+    v166 = sum_u32x4(v157); v168 = v13 + (i64)v149; v170 = v152;
+v165:;
+    u32 v167 = bswap32(at(u32_1, v168)) + v166;
+    u64 v171 = v170 - 4;
+    if (!(v171 == 0)) { v166 = v167; v168 = v168 + 4; v170 = v171; goto v165; }
+    if (!(v126 > 3)) { v216 = v126; v217 = v125; v218 = 0; goto v178; }
+    u64 v179 = v126 - 4;
+    u64 v181 = (v179 >> 2) + 1;
+    if (v179 < 12u) { v203 = 0; v204 = v125; v205 = v126; goto v183; }
+    u64 v185 = v181 & 0x7ffffffffffffffcu;
+    u64 v186 = v185 << 2;
+    u64 v189 = v126 - (v185 << 2);
+    v191 = 0; v193 = (u32x4){0};
+v190:;
+    u32x4 v194 = bswap_u32x4(at(u32x4_1, v125 + (i64)(v191 << 2))) + v193;
+    u64 v192 = v191 + 4;
+    if (!(v192 == v185)) { v191 = v192; v193 = v194; goto v190; }
+    u32 v201 = sum_u32x4(v194);
+    if (v181 == v185) { v216 = v189; v217 = v125 + (i64)v186; v218 = v201; goto v178; }
+    v203 = v201; v204 = v125 + (i64)v186; v205 = v189;
+v183:;
+    v207 = v203; v209 = v204; v211 = v205;
 v206:;
-    if (v150 > ((u16)v208)) { v204 = v205; v207 = v208; goto v203; }
-    v628 = v205; goto v147;
-v121:;
-    u8 *v329 = at(ptr_1, at(ptr, v1 + 8));
-    u16 v331 = at(u16_1, v329 + 4);
-    u64 v333 = (u64)bswap16(v331);
-    if (v331 == 0) { v369 = (u8 *)table_d0e67785; v370 = 0xffffffffffffffccu; goto v335; }
-    v339 = 0;
-v336:;
-    u64 v341 = v339 << 4;
-    if (!((((at(u8, v329 + (i64)v341 + 12) == 104u) & (at(u8, v329 + (i64)v341 + 13) == 101u)) & (at(u8, v329 + (i64)v341 + 14) == 97u)) & (at(u8, v329 + (i64)v341 + 15) == 100u))) goto v337;
-    v369 = v329 + (i64)((u64)bswap32(at(u32_1, v329 + (i64)v341 + 20))); v370 = ((u64)bswap32(at(u32_1, v329 + (i64)v341 + 24))) - 52u; goto v335;
-v337:;
-    u64 v338 = v339 + 1;
-    if (v338 == v333) { v369 = (u8 *)table_d0e67785; v370 = 0xffffffffffffffccu; } else { v339 = v338; goto v336; }
-v335:;
-    u16 v372 = at(u16_1, v369 + 48);
-    u32 v375 = sum_u32x2(bswap_u32x2(at(u32x2_1, v369)));
-    v378 = 0; v380 = v369 + 12; v382 = 36u;
-v377:;
-    u32 v379 = bswap32(at(u32_1, v380)) + v378;
-    u64 v383 = v382 - 4;
-    if (!(v383 == 0)) { v378 = v379; v380 = v380 + 4; v382 = v383; goto v377; }
-    u32 v388 = (u32)v372;
-    if (!(v370 > 3)) { v430 = v370; v431 = v369 + 52; v432 = 0; goto v392; }
-    u64 v393 = v370 - 4;
-    u64 v395 = (v393 >> 2) + 1;
-    if (v393 < 12u) { v417 = 0; v418 = v369 + 52; v419 = v370; goto v397; }
-    u64 v399 = v395 & 0x7ffffffffffffffcu;
-    u64 v400 = v399 << 2;
-    u64 v403 = v370 - (v399 << 2);
-    v405 = 0; v407 = (u32x4){0};
-v404:;
-    u32x4 v408 = bswap_u32x4(at(u32x4_1, (v369 + 52) + (i64)(v405 << 2))) + v407;
-    u64 v406 = v405 + 4;
-    if (!(v406 == v399)) { v405 = v406; v407 = v408; goto v404; }
-    u32 v415 = sum_u32x4(v408);
-    if (v395 == v399) { v430 = v403; v431 = (v369 + 52) + (i64)v400; v432 = v415; goto v392; }
-    v417 = v415; v418 = (v369 + 52) + (i64)v400; v419 = v403;
-v397:;
-    v421 = v417; v423 = v418; v425 = v419;
-v420:;
-    u32 v422 = bswap32(at(u32_1, v423)) + v421;
-    u64 v426 = v425 - 4;
-    if (v426 > 3) { v421 = v422; v423 = v423 + 4; v425 = v426; goto v420; }
-    v430 = v426; v431 = v423 + 4; v432 = v422;
-v392:;
-    at(u32, v10) = 0;
-    memcpy_any(v10, v431, v430);
-    v628 = (((v375 + bswap32(v388 | 16777216u)) + v379) + v432) + bswap32(at(u32, v10)); goto v147;
-v122:;
-    u8 *v441 = at(ptr, v1 + 8);
-    u16 v443 = at(u16, v441 + 64);
-    u8 *v444 = at(ptr, v1 + 168);
-    u64 v445 = at(u64, v1 + 176);
-    if (v445 == 0) { v475 = 0; goto v447; }
-    if (at(u8, v444) & 1) { v485 = 0; goto v451; }
-    if (v445 < 64u) { v475 = 0; goto v447; }
-    v455 = 0;
+    u32 v208 = bswap32(at(u32_1, v209)) + v207;
+    u64 v212 = v211 - 4;
+    if (v212 > 3) { v207 = v208; v209 = v209 + 4; v211 = v212; goto v206; }
+    v216 = v212; v217 = v209 + 4; v218 = v208;
+v178:;
+    at(u32, v12) = 0;
+    memcpy_any(v12, v217, v216);
+    v705 = ((v167 + v71) + v218) + bswap32(at(u32, v12)); goto v224;
+v103:;
+    u8 *v225 = at(ptr, v1 + 8);
+    u16 v227 = at(u16, v225 + 64);
+    u8 *v228 = at(ptr, v1 + 168);
+    u64 v229 = at(u64, v1 + 176);
+    if (v229 == 0) { v259 = 0; goto v231; }
+    if (at(u8, v228) & 1) { v269 = 0; goto v235; }
+    if (v229 < 64u) { v259 = 0; goto v231; }
+    v239 = 0;
+v238:;
+    if (v239 == 0xffffffffffffffc0u) goto v241;
+    v246 = 0; v248 = (u8x16){0};
+v245:;
+    u8x16 v249 = v248 | ((-(at(u8x16_1, (v228 + (i64)v239) + (i64)v246) & 1)));
+    u64 v247 = v246 + 16u;
+    if (!(v247 == 64u)) { v246 = v247; v248 = v249; goto v245; }
+    if (!(bits_u8x16(v249) == 0)) { v259 = v239; goto v231; }
+v241:;
+    u64 v240 = v239 + 64u;
+    if ((v229 - v240) < 64u) v259 = v240; else { v239 = v240; goto v238; }
+v231:;
+    if (v259 < v229) v262 = v259; else { v269 = v229; goto v235; }
+v261:;
+    if (at(u8, v228 + v262) & 1) { v269 = v262; goto v235; }
+    u64 v263 = v262 + 1;
+    if (v263 == v229) v269 = v229; else { v262 = v263; goto v261; }
+v235:;
+    if (!(v227 > ((u16)v269))) { v705 = 0; goto v224; }
+    u8 *v276 = at(ptr_1, v225 + 32);
+    u8 *v278 = at(ptr_1, v225 + 48);
+    flag v279 = at(u8, v225 + 70) == 0;
+    v281 = 0; v284 = v269;
+v280:;
+    u64 v286 = v284 & 65535u;
+    if (!v279) goto v288;
+    u64 v289 = v286 << 1;
+    v310 = ((u64)bswap16(at(u16_1, v276 + (i64)v289))) << 1; v311 = ((u64)bswap16(at(u16_1, v276 + (i64)v289 + 2))) << 1; goto v300;
+v288:;
+    u64 v301 = v286 << 2;
+    v310 = (u64)bswap32(at(u32_1, v276 + (i64)v301)); v311 = (u64)bswap32(at(u32_1, v276 + (i64)v301 + 4));
+v300:;
+    u64 v313 = v311 - v310;
+    if (!(v313 > 3)) { v355 = v313; v356 = v278 + (i64)v310; v357 = 0; goto v316; }
+    u64 v318 = (v311 - 4) - v310;
+    u64 v320 = (v318 >> 2) + 1;
+    if (v318 < 12u) { v342 = 0; v343 = v278 + (i64)v310; v344 = v313; goto v322; }
+    u64 v324 = v320 & 0x7ffffffffffffffcu;
+    u64 v325 = v324 << 2;
+    u64 v328 = v313 - (v324 << 2);
+    v330 = 0; v332 = (u32x4){0};
+v329:;
+    u32x4 v333 = bswap_u32x4(at(u32x4_1, (v278 + (i64)v310) + (i64)(v330 << 2))) + v332;
+    u64 v331 = v330 + 4;
+    if (!(v331 == v324)) { v330 = v331; v332 = v333; goto v329; }
+    u32 v340 = sum_u32x4(v333);
+    if (v320 == v324) { v355 = v328; v356 = (v278 + (i64)v310) + (i64)v325; v357 = v340; goto v316; }
+    v342 = v340; v343 = (v278 + (i64)v310) + (i64)v325; v344 = v328;
+v322:;
+    v346 = v342; v348 = v343; v350 = v344;
+v345:;
+    u32 v347 = bswap32(at(u32_1, v348)) + v346;
+    u64 v351 = v350 - 4;
+    if (v351 > 3) { v346 = v347; v348 = v348 + 4; v350 = v351; goto v345; }
+    v355 = v351; v356 = v348 + 4; v357 = v347;
+v316:;
+    at(u32, v11) = 0;
+    memcpy_any(v11, v356, v355);
+    u32 v282 = (v357 + v281) + bswap32(at(u32, v11));
+    u64 v362 = (v284 + 1) & 65535u;
+    if (!(v229 > v362)) goto v365;
+    if (at(u8, v228 + v362) & 1) { v285 = v362; goto v283; }
+v365:;
+    if ((v229 - v362) < 64u) { v393 = v362; goto v371; }
+    v373 = v362;
+v372:;
+    if (!(v373 < 0xffffffffffffffc0u)) goto v375;
+    v380 = 0; v382 = (u8x16){0};
+v379:;
+    u8x16 v383 = v382 | ((-(at(u8x16_1, (v228 + (i64)v373) + (i64)v380) & 1)));
+    u64 v381 = v380 + 16u;
+    if (!(v381 == 64u)) { v380 = v381; v382 = v383; goto v379; }
+    if (!(bits_u8x16(v383) == 0)) { v393 = v373; goto v371; }
+v375:;
+    u64 v374 = v373 + 64u;
+    if ((v229 - v374) < 64u) v393 = v374; else { v373 = v374; goto v372; }
+v371:;
+    if (v393 < v229) v396 = v393; else { v285 = v229; goto v283; }
+v395:;
+    if (at(u8, v228 + v396) & 1) { v285 = v396; goto v283; }
+    u64 v397 = v396 + 1;
+    if (v397 == v229) v285 = v229; else { v396 = v397; goto v395; }
+v283:;
+    if (v227 > ((u16)v285)) { v281 = v282; v284 = v285; goto v280; }
+    v705 = v282; goto v224;
+v104:;
+    u8 *v406 = at(ptr_1, at(ptr, v1 + 8));
+    u16 v408 = at(u16_1, v406 + 4);
+    u64 v410 = (u64)bswap16(v408);
+    if (v408 == 0) { v446 = (u8 *)table_55ba7287; v447 = 0xffffffffffffffccu; goto v412; }
+    v416 = 0;
+v413:;
+    u64 v418 = v416 << 4;
+    if (!((((at(u8, v406 + (i64)v418 + 12) == 104u) & (at(u8, v406 + (i64)v418 + 13) == 101u)) & (at(u8, v406 + (i64)v418 + 14) == 97u)) & (at(u8, v406 + (i64)v418 + 15) == 100u))) goto v414;
+    v446 = v406 + (i64)((u64)bswap32(at(u32_1, v406 + (i64)v418 + 20))); v447 = ((u64)bswap32(at(u32_1, v406 + (i64)v418 + 24))) - 52u; goto v412;
+v414:;
+    u64 v415 = v416 + 1;
+    if (v415 == v410) { v446 = (u8 *)table_55ba7287; v447 = 0xffffffffffffffccu; } else { v416 = v415; goto v413; }
+v412:;
+    u16 v449 = at(u16_1, v446 + 48);
+    u32 v452 = sum_u32x2(bswap_u32x2(at(u32x2_1, v446)));
+    v455 = 0; v457 = v446 + 12; v459 = 36u;
 v454:;
-    if (v455 == 0xffffffffffffffc0u) goto v457;
-    v462 = 0; v464 = (u8x16){0};
-v461:;
-    u8x16 v465 = v464 | ((-(at(u8x16_1, (v444 + (i64)v455) + (i64)v462) & 1)));
-    u64 v463 = v462 + 16u;
-    if (!(v463 == 64u)) { v462 = v463; v464 = v465; goto v461; }
-    if (!(bits_u8x16(v465) == 0)) { v475 = v455; goto v447; }
-v457:;
-    u64 v456 = v455 + 64u;
-    if ((v445 - v456) < 64u) v475 = v456; else { v455 = v456; goto v454; }
-v447:;
-    if (v475 < v445) v478 = v475; else { v485 = v445; goto v451; }
-v477:;
-    if (at(u8, v444 + v478) & 1) { v485 = v478; goto v451; }
-    u64 v479 = v478 + 1;
-    if (v479 == v445) v485 = v445; else { v478 = v479; goto v477; }
-v451:;
-    u16 v486 = (u16)v485;
-    if (!(v443 > v486)) { v628 = 0; goto v147; }
-    u8 *v492 = at(ptr_1, v441 + 32);
-    flag v493 = at(u8, v441 + 70) == 0;
-    v495 = 0; v498 = 0; v500 = v486;
-v494:;
-    u64 v502 = (u64)v500;
-    if (!v493) goto v504;
-    u64 v505 = v502 << 1;
-    v524 = ((u32)bswap16(at(u16_1, v492 + (i64)v505))) << 1; v525 = ((u32)bswap16(at(u16_1, v492 + (i64)v505 + 2))) << 1; goto v516;
-v504:;
-    u64 v517 = v502 << 2;
-    v524 = bswap32(at(u32_1, v492 + (i64)v517)); v525 = bswap32(at(u32_1, v492 + (i64)v517 + 4));
-v516:;
-    u32 v526 = v525 - v524;
-    u32 v496 = (v526 + v495) + (((u32)0 - v526) & 3);
-    u64 v531 = (u64)((u16)(v500 + 1));
-    if (!(v445 > v531)) goto v534;
-    if (at(u8, v444 + v531) & 1) { v572 = v531; goto v497; }
-v534:;
-    if ((v445 - v531) < 64u) { v562 = v531; goto v540; }
-    v542 = v531;
-v541:;
-    if (!(v542 < 0xffffffffffffffc0u)) goto v544;
-    v549 = 0; v551 = (u8x16){0};
-v548:;
-    u8x16 v552 = v551 | ((-(at(u8x16_1, (v444 + (i64)v542) + (i64)v549) & 1)));
-    u64 v550 = v549 + 16u;
-    if (!(v550 == 64u)) { v549 = v550; v551 = v552; goto v548; }
-    if (!(bits_u8x16(v552) == 0)) { v562 = v542; goto v540; }
-v544:;
-    u64 v543 = v542 + 64u;
-    if ((v445 - v543) < 64u) v562 = v543; else { v542 = v543; goto v541; }
-v540:;
-    if (v562 < v445) v565 = v562; else { v572 = v445; goto v497; }
-v564:;
-    if (at(u8, v444 + v565) & 1) { v572 = v565; goto v497; }
-    u64 v566 = v565 + 1;
-    if (v566 == v445) v572 = v445; else { v565 = v566; goto v564; }
+    u32 v456 = bswap32(at(u32_1, v457)) + v455;
+    u64 v460 = v459 - 4;
+    if (!(v460 == 0)) { v455 = v456; v457 = v457 + 4; v459 = v460; goto v454; }
+    u32 v465 = (u32)v449;
+    if (!(v447 > 3)) { v507 = v447; v508 = v446 + 52; v509 = 0; goto v469; }
+    u64 v470 = v447 - 4;
+    u64 v472 = (v470 >> 2) + 1;
+    if (v470 < 12u) { v494 = 0; v495 = v446 + 52; v496 = v447; goto v474; }
+    u64 v476 = v472 & 0x7ffffffffffffffcu;
+    u64 v477 = v476 << 2;
+    u64 v480 = v447 - (v476 << 2);
+    v482 = 0; v484 = (u32x4){0};
+v481:;
+    u32x4 v485 = bswap_u32x4(at(u32x4_1, (v446 + 52) + (i64)(v482 << 2))) + v484;
+    u64 v483 = v482 + 4;
+    if (!(v483 == v476)) { v482 = v483; v484 = v485; goto v481; }
+    u32 v492 = sum_u32x4(v485);
+    if (v472 == v476) { v507 = v480; v508 = (v446 + 52) + (i64)v477; v509 = v492; goto v469; }
+    v494 = v492; v495 = (v446 + 52) + (i64)v477; v496 = v480;
+v474:;
+    v498 = v494; v500 = v495; v502 = v496;
 v497:;
-    u16 v501 = (u16)v572;
-    u32 v499 = (v496 * ((u32)((u16)(v501 - v500)))) + v498;
-    if (v443 > v501) { v495 = v496; v498 = v499; v500 = v501; goto v494; }
-    v628 = v499;
-v147:;
-    v629 = v117; v630 = v628;
-v108:;
-    u64 v631 = v106 * 12u;
-    at(u8, v15 + v631) = v113;
-    memset(v15 + v631 + 1, 0, 3);
-    at(u32, v15 + v631 + 4) = v629;
-    at(u32, v15 + v631 + 8) = v630;
-    u64 v107 = v106 + 1;
-    if (!(v107 == 29u)) { v106 = v107; goto v105; }
-    memcpy(v20, v15, 348u);
-    memcpy(v19, v20, 348u);
-    v639 = 0; v641 = (u16x8){0};
-v638:;
-    u8 v666 = at(u8, v19 + (v639 * 12u));
-    u8 v667 = at(u8, v19 + (v639 * 12u) + 12);
-    u8 v668 = at(u8, v19 + (v639 * 12u) + 24);
-    u8 v669 = at(u8, v19 + (v639 * 12u) + 36);
-    u8 v670 = at(u8, v19 + (v639 * 12u) + 48);
-    u8 v671 = at(u8, v19 + (v639 * 12u) + 60);
-    u8 v672 = at(u8, v19 + (v639 * 12u) + 72);
-    u8 v673 = at(u8, v19 + (v639 * 12u) + 84);
-    u16x8 v642 = v641 + (__builtin_convertvector((u8x8){v666, v667, v668, v669, v670, v671, v672, v673}, u16x8));
-    u64 v640 = v639 + 8;
-    if (!(v640 == 24u)) { v639 = v640; v641 = v642; goto v638; }
-    v687 = sum_u16x8(v642); v689 = 24u;
-v686:;
-    u16 v688 = (u16)(v687 + ((u16)at(u8, v19 + (v689 * 12u))));
-    u64 v690 = v689 + 1;
-    if (!(v690 == 29u)) { v687 = v688; v689 = v690; goto v686; }
-    if (!(((u16)(v688 + 65535u)) < 4095u)) { v709 = 0; v710 = 0; v711 = 0; goto v700; }
-    u16 v702 = (u16)(ctlz16(v688) ^ 15u);
-    u16 v703 = (u16)((u32)16u << (v702 & 31));
-    v709 = bswap16((u16)(((u16)((u32)v688 << 4)) - v703)); v710 = (u16)((u32)v702 << 8); v711 = bswap16(v703);
-v700:;
+    u32 v499 = bswap32(at(u32_1, v500)) + v498;
+    u64 v503 = v502 - 4;
+    if (v503 > 3) { v498 = v499; v500 = v500 + 4; v502 = v503; goto v497; }
+    v507 = v503; v508 = v500 + 4; v509 = v499;
+v469:;
+    at(u32, v10) = 0;
+    memcpy_any(v10, v508, v507);
+    v705 = (((v452 + bswap32(v465 | 16777216u)) + v456) + v509) + bswap32(at(u32, v10)); goto v224;
+v105:;
+    u8 *v518 = at(ptr, v1 + 8);
+    u16 v520 = at(u16, v518 + 64);
+    u8 *v521 = at(ptr, v1 + 168);
+    u64 v522 = at(u64, v1 + 176);
+    if (v522 == 0) { v552 = 0; goto v524; }
+    if (at(u8, v521) & 1) { v562 = 0; goto v528; }
+    if (v522 < 64u) { v552 = 0; goto v524; }
+    v532 = 0;
+v531:;
+    if (v532 == 0xffffffffffffffc0u) goto v534;
+    v539 = 0; v541 = (u8x16){0};
+v538:;
+    u8x16 v542 = v541 | ((-(at(u8x16_1, (v521 + (i64)v532) + (i64)v539) & 1)));
+    u64 v540 = v539 + 16u;
+    if (!(v540 == 64u)) { v539 = v540; v541 = v542; goto v538; }
+    if (!(bits_u8x16(v542) == 0)) { v552 = v532; goto v524; }
+v534:;
+    u64 v533 = v532 + 64u;
+    if ((v522 - v533) < 64u) v552 = v533; else { v532 = v533; goto v531; }
+v524:;
+    if (v552 < v522) v555 = v552; else { v562 = v522; goto v528; }
+v554:;
+    if (at(u8, v521 + v555) & 1) { v562 = v555; goto v528; }
+    u64 v556 = v555 + 1;
+    if (v556 == v522) v562 = v522; else { v555 = v556; goto v554; }
+v528:;
+    u16 v563 = (u16)v562;
+    if (!(v520 > v563)) { v705 = 0; goto v224; }
+    u8 *v569 = at(ptr_1, v518 + 32);
+    flag v570 = at(u8, v518 + 70) == 0;
+    v572 = 0; v575 = 0; v577 = v563;
+v571:;
+    u64 v579 = (u64)v577;
+    if (!v570) goto v581;
+    u64 v582 = v579 << 1;
+    v601 = ((u32)bswap16(at(u16_1, v569 + (i64)v582))) << 1; v602 = ((u32)bswap16(at(u16_1, v569 + (i64)v582 + 2))) << 1; goto v593;
+v581:;
+    u64 v594 = v579 << 2;
+    v601 = bswap32(at(u32_1, v569 + (i64)v594)); v602 = bswap32(at(u32_1, v569 + (i64)v594 + 4));
+v593:;
+    u32 v603 = v602 - v601;
+    u32 v573 = (v603 + v572) + (((u32)0 - v603) & 3);
+    u64 v608 = (u64)((u16)(v577 + 1));
+    if (!(v522 > v608)) goto v611;
+    if (at(u8, v521 + v608) & 1) { v649 = v608; goto v574; }
+v611:;
+    if ((v522 - v608) < 64u) { v639 = v608; goto v617; }
+    v619 = v608;
+v618:;
+    if (!(v619 < 0xffffffffffffffc0u)) goto v621;
+    v626 = 0; v628 = (u8x16){0};
+v625:;
+    u8x16 v629 = v628 | ((-(at(u8x16_1, (v521 + (i64)v619) + (i64)v626) & 1)));
+    u64 v627 = v626 + 16u;
+    if (!(v627 == 64u)) { v626 = v627; v628 = v629; goto v625; }
+    if (!(bits_u8x16(v629) == 0)) { v639 = v619; goto v617; }
+v621:;
+    u64 v620 = v619 + 64u;
+    if ((v522 - v620) < 64u) v639 = v620; else { v619 = v620; goto v618; }
+v617:;
+    if (v639 < v522) v642 = v639; else { v649 = v522; goto v574; }
+v641:;
+    if (at(u8, v521 + v642) & 1) { v649 = v642; goto v574; }
+    u64 v643 = v642 + 1;
+    if (v643 == v522) v649 = v522; else { v642 = v643; goto v641; }
+v574:;
+    u16 v578 = (u16)v649;
+    u32 v576 = (v573 * ((u32)((u16)(v578 - v577)))) + v575;
+    if (v520 > v578) { v572 = v573; v575 = v576; v577 = v578; goto v571; }
+    v705 = v576;
+v224:;
+    v706 = v100; v707 = v705;
+v91:;
+    u64 v708 = v89 * 12u;
+    at(u8, v16 + v708) = v96;
+    memset(v16 + v708 + 1, 0, 3);
+    at(u32, v16 + v708 + 4) = v706;
+    at(u32, v16 + v708 + 8) = v707;
+    u64 v90 = v89 + 1;
+    if (!(v90 == 29u)) { v89 = v90; goto v88; }
+    memcpy(v21, v16, 348u);
+    memcpy(v20, v21, 348u);
+    v716 = 0; v718 = (u16x8){0};
+v715:;
+    u8 v743 = at(u8, v20 + (v716 * 12u));
+    u8 v744 = at(u8, v20 + (v716 * 12u) + 12);
+    u8 v745 = at(u8, v20 + (v716 * 12u) + 24);
+    u8 v746 = at(u8, v20 + (v716 * 12u) + 36);
+    u8 v747 = at(u8, v20 + (v716 * 12u) + 48);
+    u8 v748 = at(u8, v20 + (v716 * 12u) + 60);
+    u8 v749 = at(u8, v20 + (v716 * 12u) + 72);
+    u8 v750 = at(u8, v20 + (v716 * 12u) + 84);
+    u16x8 v719 = v718 + (__builtin_convertvector((u8x8){v743, v744, v745, v746, v747, v748, v749, v750}, u16x8));
+    u64 v717 = v716 + 8;
+    if (!(v717 == 24u)) { v716 = v717; v718 = v719; goto v715; }
+    v764 = sum_u16x8(v719); v766 = 24u;
+v763:;
+    u16 v765 = (u16)(v764 + ((u16)at(u8, v20 + (v766 * 12u))));
+    u64 v767 = v766 + 1;
+    if (!(v767 == 29u)) { v764 = v765; v766 = v767; goto v763; }
+    if (!(((u16)(v765 + 65535u)) < 4095u)) { v786 = 0; v787 = 0; v788 = 0; goto v777; }
+    u16 v779 = (u16)(ctlz16(v765) ^ 15u);
+    u16 v780 = (u16)((u32)16u << (v779 & 31));
+    v786 = bswap16((u16)(((u16)((u32)v765 << 4)) - v780)); v787 = (u16)((u32)v779 << 8); v788 = bswap16(v780);
+v777:;
     at(u8, v8) = 0;
     at(u8, v8 + 1) = 1;
     at(u8, v8 + 2) = 0;
     at(u8, v8 + 3) = 0;
-    at(u16_1, v8 + 4) = bswap16(v688);
-    at(u16_1, v8 + 6) = v711;
-    at(u16_1, v8 + 8) = v710;
-    at(u16_1, v8 + 10) = v709;
-    v721 = 0; v723 = v8; v725 = 12u;
-v720:;
-    u32 v722 = bswap32(at(u32_1, v723)) + v721;
-    u64 v726 = v725 - 4;
-    if (!(v726 == 0)) { v721 = v722; v723 = v723 + 4; v725 = v726; goto v720; }
-    v761 = v722; v764 = (((u32)v688) << 4) | 12u; v766 = 0;
-v760:;
-    u64 v768 = v766 * 12u;
-    u32 v772 = at(u32, v19 + v768 + 4);
-    u32 v774 = at(u32, v19 + v768 + 8);
-    if (!(at(u8, v19 + v768) & 1)) goto v777;
-    u64 v781 = at(u64, (u8 *)table_faed1f12 + (v766 << 3));
-    if (!(v781 < 16u)) goto v784;
+    at(u16_1, v8 + 4) = bswap16(v765);
+    at(u16_1, v8 + 6) = v788;
+    at(u16_1, v8 + 8) = v787;
+    at(u16_1, v8 + 10) = v786;
+    v798 = 0; v800 = v8; v802 = 12u;
+v797:;
+    u32 v799 = bswap32(at(u32_1, v800)) + v798;
+    u64 v803 = v802 - 4;
+    if (!(v803 == 0)) { v798 = v799; v800 = v800 + 4; v802 = v803; goto v797; }
+    v838 = v799; v841 = (((u32)v765) << 4) | 12u; v843 = 0;
+v837:;
+    u64 v845 = v843 * 12u;
+    u32 v849 = at(u32, v20 + v845 + 4);
+    u32 v851 = at(u32, v20 + v845 + 8);
+    if (!(at(u8, v20 + v845) & 1)) goto v854;
+    u64 v858 = at(u64, (u8 *)table_faed1f12 + (v843 << 3));
+    if (!(v858 < 16u)) goto v861;
     at(u32, v5) = 841962319u;
     at(u32, v5 + 4) = 1885433187u;
     at(u32, v5 + 8) = 544503395u;
@@ -7970,16 +10617,16 @@ v760:;
     at(u32, v5 + 52) = 1885696624u;
     at(u32, v5 + 56) = 1634035830u;
     at(u32, v5 + 60) = 2020896118u;
-    v797 = v5 + (v781 << 2); goto v787;
-v784:;
-    if (!(v781 < 21u)) goto v790;
+    v874 = v5 + (v858 << 2); goto v864;
+v861:;
+    if (!(v858 < 21u)) goto v867;
     at(u32, v6) = 1163084098u;
     at(u32, v6 + 4) = 1178944583u;
     at(u32, v6 + 8) = 1397706823u;
     at(u32, v6 + 12) = 1112888135u;
     at(u32, v6 + 16) = 1852990827u;
-    v797 = v6 + (i64)(v781 << 2) - 64; goto v787;
-v790:;
+    v874 = v6 + (i64)(v858 << 2) - 64; goto v864;
+v867:;
     at(u32, v7) = 1380013640u;
     at(u32, v7 + 4) = 1380013645u;
     at(u32, v7 + 8) = 1413567571u;
@@ -7988,23 +10635,23 @@ v790:;
     at(u32, v7 + 20) = 1918989923u;
     at(u32, v7 + 24) = 1918989926u;
     at(u32, v7 + 28) = 1918989927u;
-    v797 = v7 + (i64)(v781 << 2) - 84;
-v787:;
-    u32 v801 = v772 + v764;
-    v804 = v801; v805 = ((v774 << 1) + v801) + bswap32(at(u32_1, v797)); goto v763;
-v777:;
-    v804 = v772 + v764; v805 = 0;
-v763:;
-    u32 v762 = v805 + v761;
-    u64 v767 = v766 + 1;
-    if (!(v767 == 29u)) { v761 = v762; v764 = v804 + (((u32)0 - v772) & 3); v766 = v767; goto v760; }
-    memcpy(v16 + 3, v20, 348u);
-    memcpy(v17 + 6, v18, 16u);
+    v874 = v7 + (i64)(v858 << 2) - 84;
+v864:;
+    u32 v878 = v849 + v841;
+    v881 = v878; v882 = ((v851 << 1) + v878) + bswap32(at(u32_1, v874)); goto v840;
+v854:;
+    v881 = v849 + v841; v882 = 0;
+v840:;
+    u32 v839 = v882 + v838;
+    u64 v844 = v843 + 1;
+    if (!(v844 == 29u)) { v838 = v839; v841 = v881 + (((u32)0 - v849) & 3); v843 = v844; goto v837; }
+    memcpy(v17 + 3, v21, 348u);
+    memcpy(v18 + 6, v19, 16u);
     at(u8, v0) = v2;
-    memcpy(v0 + 1, v16, 351u);
-    at(u16_1, v0 + 352) = v688;
-    memcpy(v0 + 354, v17, 22u);
-    at(u32_1, v0 + 376) = (u32)0xb1b0afbau - v762;
+    memcpy(v0 + 1, v17, 351u);
+    at(u16_1, v0 + 352) = v765;
+    memcpy(v0 + 354, v18, 22u);
+    at(u32_1, v0 + 376) = (u32)0xb1b0afbau - v839;
     at(u32_1, v0 + 380) = 0;
     return;
 }
@@ -8028,7 +10675,7 @@ v13:;
 v9:;
     u16 v32 = at(u16, at(ptr, v1 + 8) + 64);
     if (v32 == 0) { v51 = 0; goto v34; }
-    u8 *v37 = at(ptr, v1 + 608);
+    u8 *v37 = at(ptr, v1 + 712);
     u64 v38 = (u64)v32;
     v40 = 0;
 v39:;
@@ -8036,7 +10683,7 @@ v39:;
     v51 = (u16)v40;
 v34:;
     if (!(v51 < v32)) { v90 = 0; goto v50; }
-    u8 *v55 = at(ptr, v1 + 608);
+    u8 *v55 = at(ptr, v1 + 712);
     v57 = 0; v60 = v51;
 v56:;
     u64 v63 = ((u64)v60) * 24u;
@@ -8177,50 +10824,12 @@ v168:;
 }
 
 static u8_u64 font_write_size_table_length_895b(u8 *v0, u8 *v1, u64 v2) {
-    _Alignas(8) u8 v4[24];
-    u64 v31, v68;
-    u8 v67;
-    switch (v2) {
-    case 1: goto v6;
-    case 5: goto v7;
-    case 6: goto v8;
-    case 9: goto v9;
-    default: goto v5;
-    }
-v5:;
-    font_join_union_UnionSource_copied(v4, v0, v2);
-    u8 v62 = at(u8, v4);
-    v67 = v62; v68 = (v62 == 1) ? at(u64, v4 + 16) : 0; goto v14;
-v6:;
-    v67 = 1; v68 = (u64)((at(u32_1, v1) * 12u) + 36u); goto v14;
-v7:;
-    u64 v16 = at(u64_1, v1 + 8);
-    v67 = 1; v68 = ((v16 == 0) ? 4 : 0) + v16; goto v14;
-v8:;
-    u8 *v22 = at(ptr_1, at(ptr, v0 + 8));
-    u16 v24 = at(u16_1, v22 + 4);
-    u64 v26 = (u64)bswap16(v24);
-    if (v24 == 0) { v67 = 1; v68 = 0; goto v14; }
-    v31 = 0;
-v28:;
-    u64 v33 = v31 << 4;
-    if (!((((at(u8, v22 + (i64)v33 + 12) == 104u) & (at(u8, v22 + (i64)v33 + 13) == 101u)) & (at(u8, v22 + (i64)v33 + 14) == 97u)) & (at(u8, v22 + (i64)v33 + 15) == 100u))) goto v29;
-    v67 = 1; v68 = (u64)bswap32(at(u32_1, v22 + (i64)v33 + 24)); goto v14;
-v29:;
-    u64 v30 = v31 + 1;
-    if (v30 == v26) { v67 = 1; v68 = 0; goto v14; }
-    v31 = v30; goto v28;
-v9:;
-    v67 = 1; v68 = (((u64)at(u16, at(ptr, v0 + 8) + 64)) << 2) + 4;
-v14:;
-    return (u8_u64){v67, v68};
-}
-
-static u8_u64 font_write_size_table_length_a65d(u8 *v0, u8 v1, u8 *v2, u64 v3) {
     _Alignas(8) u8 v5[24];
-    u64 v36, v73;
-    u8 v72;
-    switch (v3) {
+    u8 *v29, v93;
+    u32 v34, v35;
+    u64 v57, v94;
+    u32 v4 = at(u32_1, v1);
+    switch (v2) {
     case 1: goto v7;
     case 5: goto v8;
     case 6: goto v9;
@@ -8228,42 +10837,109 @@ static u8_u64 font_write_size_table_length_a65d(u8 *v0, u8 v1, u8 *v2, u64 v3) {
     default: goto v6;
     }
 v6:;
-    font_subset_kind_source_CutOfKindSource_copied(v5, v0, v3);
-    u8 v67 = at(u8, v5);
-    v72 = v67; v73 = (v67 == 1) ? at(u64, v5 + 16) : 0; goto v17;
+    font_join_union_UnionSource_copied(v5, v0, v2);
+    u8 v88 = at(u8, v5);
+    v93 = v88; v94 = (v88 == 1) ? at(u64, v5 + 16) : 0; goto v40;
 v7:;
-    v72 = 1; v73 = (u64)((at(u32_1, v2) * 12u) + ((v1 == 0) ? 28u : 36u)); goto v17;
+    if (!(at(u8, v0 + 312) == 1)) goto v15;
+    if (at(u8, v0) == 0) { v29 = v0 + 328; goto v19; }
+    goto v20;
+v15:;
+    if (at(u8, v0) == 0) { v34 = 0; v35 = 36u; goto v23; }
+v20:;
+    if (!(at(u8, v0 + 872) == 1)) { v34 = 0; v35 = 36u; goto v23; }
+    v29 = v0 + 888;
+v19:;
+    u64 v30 = at(u64, v29);
+    v34 = (u32)v30; v35 = (v30 == 0) ? 36u : 44u;
+v23:;
+    v93 = 1; v94 = (u64)((v34 + (v4 * 12u)) + v35); goto v40;
 v8:;
-    u64 v19 = at(u64_1, v2 + 8);
-    v72 = 1; v73 = ((v1 == 0) ? 0 : ((v19 == 0) ? 4 : 0)) + v19; goto v17;
+    u64 v42 = at(u64_1, v1 + 8);
+    v93 = 1; v94 = ((v42 == 0) ? 4 : 0) + v42; goto v40;
 v9:;
-    u8 *v27 = at(ptr_1, at(ptr, v0 + 8));
-    u16 v29 = at(u16_1, v27 + 4);
-    u64 v31 = (u64)bswap16(v29);
-    if (v29 == 0) { v72 = 1; v73 = 0; goto v17; }
-    v36 = 0;
-v33:;
-    u64 v38 = v36 << 4;
-    if (!((((at(u8, v27 + (i64)v38 + 12) == 104u) & (at(u8, v27 + (i64)v38 + 13) == 101u)) & (at(u8, v27 + (i64)v38 + 14) == 97u)) & (at(u8, v27 + (i64)v38 + 15) == 100u))) goto v34;
-    v72 = 1; v73 = (u64)bswap32(at(u32_1, v27 + (i64)v38 + 24)); goto v17;
-v34:;
-    u64 v35 = v36 + 1;
-    if (v35 == v31) { v72 = 1; v73 = 0; goto v17; }
-    v36 = v35; goto v33;
+    u8 *v48 = at(ptr_1, at(ptr, v0 + 8));
+    u16 v50 = at(u16_1, v48 + 4);
+    u64 v52 = (u64)bswap16(v50);
+    if (v50 == 0) { v93 = 1; v94 = 0; goto v40; }
+    v57 = 0;
+v54:;
+    u64 v59 = v57 << 4;
+    if (!((((at(u8, v48 + (i64)v59 + 12) == 104u) & (at(u8, v48 + (i64)v59 + 13) == 101u)) & (at(u8, v48 + (i64)v59 + 14) == 97u)) & (at(u8, v48 + (i64)v59 + 15) == 100u))) goto v55;
+    v93 = 1; v94 = (u64)bswap32(at(u32_1, v48 + (i64)v59 + 24)); goto v40;
+v55:;
+    u64 v56 = v57 + 1;
+    if (v56 == v52) { v93 = 1; v94 = 0; goto v40; }
+    v57 = v56; goto v54;
 v10:;
-    v72 = 1; v73 = (((u64)at(u16, at(ptr, v0 + 8) + 64)) << 2) + 4;
-v17:;
-    return (u8_u64){v72, v73};
+    v93 = 1; v94 = (((u64)at(u16, at(ptr, v0 + 8) + 64)) << 2) + 4;
+v40:;
+    return (u8_u64){v93, v94};
+}
+
+static u8_u64 font_write_size_table_length_a65d(u8 *v0, u8 v1, u8 *v2, u64 v3) {
+    _Alignas(8) u8 v6[24];
+    u8 *v34, v102;
+    u32 v41, v42;
+    u64 v66, v103;
+    u32 v5 = at(u32_1, v2);
+    switch (v3) {
+    case 1: goto v8;
+    case 5: goto v9;
+    case 6: goto v10;
+    case 9: goto v11;
+    default: goto v7;
+    }
+v7:;
+    font_subset_kind_source_CutOfKindSource_copied(v6, v0, v3);
+    u8 v97 = at(u8, v6);
+    v102 = v97; v103 = (v97 == 1) ? at(u64, v6 + 16) : 0; goto v47;
+v8:;
+    if (!(at(u8, v0 + 320) == 1)) goto v16;
+    v34 = v0 + 336; goto v18;
+v16:;
+    if (!(at(u8, v0 + 112) == 1)) goto v23;
+    u8 *v25 = at(ptr, v0 + 120);
+    if (!(at(u8, v25 + 312) == 1)) goto v23;
+    v34 = v25 + 328;
+v18:;
+    u64 v35 = at(u64, v34);
+    v41 = (u32)v35; v42 = (v35 == 0) ? ((v1 == 0) ? 28u : 36u) : 44u; goto v33;
+v23:;
+    v41 = 0; v42 = (v1 == 0) ? 28u : 36u;
+v33:;
+    v102 = 1; v103 = (u64)((v41 + (v5 * 12u)) + v42); goto v47;
+v9:;
+    u64 v49 = at(u64_1, v2 + 8);
+    v102 = 1; v103 = ((v1 == 0) ? 0 : ((v49 == 0) ? 4 : 0)) + v49; goto v47;
+v10:;
+    u8 *v57 = at(ptr_1, at(ptr, v0 + 8));
+    u16 v59 = at(u16_1, v57 + 4);
+    u64 v61 = (u64)bswap16(v59);
+    if (v59 == 0) { v102 = 1; v103 = 0; goto v47; }
+    v66 = 0;
+v63:;
+    u64 v68 = v66 << 4;
+    if (!((((at(u8, v57 + (i64)v68 + 12) == 104u) & (at(u8, v57 + (i64)v68 + 13) == 101u)) & (at(u8, v57 + (i64)v68 + 14) == 97u)) & (at(u8, v57 + (i64)v68 + 15) == 100u))) goto v64;
+    v102 = 1; v103 = (u64)bswap32(at(u32_1, v57 + (i64)v68 + 24)); goto v47;
+v64:;
+    u64 v65 = v66 + 1;
+    if (v65 == v61) { v102 = 1; v103 = 0; goto v47; }
+    v66 = v65; goto v63;
+v11:;
+    v102 = 1; v103 = (((u64)at(u16, at(ptr, v0 + 8) + 64)) << 2) + 4;
+v47:;
+    return (u8_u64){v102, v103};
 }
 
 static flag font_write_whole_file_is_whole_file(u8 *v0, u8 v1, u8 *v2, u8 *v3, u64 v4) {
     _Alignas(4) u8 v6[4], v7[4], v8[1024], v9[16], v10[1024], v13[4], v14[12], v15[64], v16[20], v17[32], v18[12];
-    _Alignas(8) u8 v11[48], v12[24], v19[24], v20[384], v21[384];
-    u16 v45, v46, v47, v1043, v1045;
-    u64 v62, v81, v90, v126, v129, v133, v173, v192, v201, v203, v216, v234, v243, v127, v130, v348, v349, v346, v1105, v1123, v1132, v367, v386, v395, v403, v414, v405, v441, v459, v402, v484, v491, v504, v507, v514, v527, v530, v556, v557, v569, v587, v596, v609, v619, v626, v641, v648, v661, v664, v531, v673, v683, v700, v707, v721, v752, v761, v780, v789, v802, v821, v830, v832, v843, v862, v871, v880, v893, v902, v916, v934, v943, v957, v964, v977, v980, v987, v1000, v1019, v1028, v1031, v1038, v1061, v1079, v1088, v1135, v344, v1149, v1159, v343;
-    u32 v131, v408, v411, v409, v1041;
-    u8 *v162, *v751;
-    u8x16 v493, v650, v966;
+    _Alignas(8) u8 v11[56], v12[24], v19[24], v20[384], v21[384];
+    u16 v45, v46, v47, v1111, v1113;
+    u64 v62, v81, v90, v126, v129, v133, v173, v192, v201, v203, v216, v234, v243, v127, v130, v337, v338, v335, v1173, v1191, v1200, v367, v396, v415, v424, v432, v442, v434, v469, v487, v431, v508, v526, v535, v553, v560, v573, v576, v583, v596, v599, v625, v626, v638, v656, v665, v677, v687, v694, v709, v716, v729, v732, v600, v741, v751, v768, v775, v789, v820, v829, v848, v857, v870, v889, v898, v900, v911, v930, v939, v948, v961, v970, v984, v1002, v1011, v1025, v1032, v1045, v1048, v1055, v1068, v1087, v1096, v1099, v1106, v1129, v1147, v1156, v1203, v333, v1217, v1227, v332;
+    u32 v131, v436, v439, v437, v1109;
+    u8 *v162, *v366, *v819;
+    u8x16 v562, v718, v1034;
     memcpy(v19, v2, 24u);
     memset(v21, 0, 384u);
     if (!(at(u64, v19 + 16) == v4)) return 0;
@@ -8415,885 +11091,966 @@ v245:;
 v128:;
     u64 v134 = v133 + 1;
     if (!(v134 == 29u)) { v126 = v127; v129 = v130; v131 = (v139 + v131) + (((u32)0 - v139) & 3); v133 = v134; goto v125; }
-    u32 v294 = bswap32(at(u32, v20 + 376));
-    flag v297 = at(u8, v20) == 0;
-    u64 v300 = v297 ? 0 : ((at(u64, v20 + 368) == 0) ? 4 : 0);
-    u32 v301 = at(u32, v20 + 360);
-    u32 v304 = bswap32((v301 * 12u) + 16u);
-    u8 v305 = (u8)v304;
-    u8 v307 = (u8)(v304 >> 8);
-    u8 v309 = (u8)(v304 >> 16u);
-    u8 v311 = (u8)(v304 >> 24u);
-    u32 v312 = bswap32(v301);
-    u8 v313 = (u8)v312;
-    u8 v315 = (u8)(v312 >> 8);
-    u8 v317 = (u8)(v312 >> 16u);
-    u8 v319 = (u8)(v312 >> 24u);
-    u8 v320 = v297 ? 1 : 2;
-    u8 v321 = v297 ? 3 : 0;
-    u8 v322 = v297 ? 10u : 4;
-    u8 v323 = v297 ? 12u : 20u;
-    u8 v324 = v297 ? 12u : 3;
-    u8 v325 = v297 ? 0 : 10u;
-    u8 v326 = v297 ? v305 : 0;
-    u8 v327 = v297 ? v307 : 0;
-    u8 v328 = v297 ? v309 : 0;
-    u8 v329 = v297 ? v311 : 20u;
-    u8 v330 = v297 ? 0 : 12u;
-    u8 v331 = v297 ? v313 : v305;
-    u8 v332 = v297 ? v315 : v307;
-    u8 v333 = v297 ? v317 : v309;
-    u8 v334 = v297 ? v319 : v311;
-    u8 v335 = v297 ? 0 : v313;
-    u8 v336 = v297 ? 0 : v315;
-    u8 v337 = v297 ? 0 : v317;
-    u8 v338 = v297 ? 0 : v319;
-    u64 v339 = v297 ? 28u : 36u;
-    v348 = v127; v349 = v130; v346 = 0;
-v340:;
-    u64 v352 = at(u64, (u8 *)table_faed1f12 + (v346 << 3));
+    u32 v299 = bswap32(at(u32, v20 + 376));
+    flag v302 = at(u8, v20) == 0;
+    u64 v305 = v302 ? 0 : ((at(u64, v20 + 368) == 0) ? 4 : 0);
+    u32 v306 = at(u32, v20 + 360);
+    u32 v307 = v306 * 12u;
+    u32 v309 = bswap32(v307 + 16u);
+    u32 v310 = bswap32(v306);
+    u32 v312 = bswap32(v307 + 44u);
+    u8 v313 = v302 ? 1 : 2;
+    u8 v314 = v302 ? 12u : 20u;
+    u8 v315 = v302 ? 12u : 3;
+    u8 v316 = v302 ? 0 : 10u;
+    u8 v317 = v302 ? 0 : 12u;
+    u32 v318 = v302 ? v310 : v309;
+    u8 v319 = (u8)v318;
+    u8 v321 = (u8)(v318 >> 8);
+    u8 v323 = (u8)(v318 >> 16u);
+    u8 v325 = (u8)(v318 >> 24u);
+    u64 v326 = v302 ? 28u : 36u;
+    u32 v327 = v302 ? v309 : 335544320u;
+    u32 v328 = v302 ? 0 : v310;
+    v337 = v127; v338 = v130; v335 = 0;
+v329:;
+    u64 v341 = at(u64, (u8 *)table_faed1f12 + (v335 << 3));
     memset(v12, 0, 24u);
-    switch (v352) {
-    case 1: goto v354;
-    case 5: goto v355;
-    case 6: goto v356;
-    case 9: goto v357;
-    default: goto v353;
+    switch (v341) {
+    case 1: goto v343;
+    case 5: goto v344;
+    case 6: goto v345;
+    case 9: goto v346;
+    default: goto v342;
     }
+v342:;
+    font_subset_kind_source_CutOfKindSource_copied(v12, v0, v341);
+    if (!(at(u8, v12) == 1)) { v333 = v337; goto v538; }
+    u8 *v1162 = at(ptr, v12 + 8);
+    u64 v1163 = at(u64, v12 + 16);
+    u64 v1166 = umin64(v1163, v4 - v337);
+    if (!(v1166 < 4)) goto v1169;
+    if (v1166 == 0) { v1200 = 0; goto v1171; }
+    v1173 = 0;
+v1172:;
+    if (!(at(u8, (v3 + (i64)v337) + (i64)v1173) == at(u8, v1162 + (i64)v1173))) goto v1181;
+    u64 v1174 = v1173 + 1;
+    if (v1174 == v1166) { v1200 = v1166; goto v1171; }
+    v1173 = v1174; goto v1172;
+v1181:;
+    if (v1173 < v1166) goto v1184;
+    v1200 = v1166; goto v1171;
+v1169:;
+    if (!(at(u32_1, v3 + (i64)v337) == at(u32_1, v1162))) goto v1184;
+    if (core_cmp_slices_groups_equal(v3 + (i64)v337, v1166, v1162)) { v1200 = v1166; goto v1171; }
+v1184:;
+    v1191 = 0;
+v1190:;
+    if (!(at(u8, (v3 + (i64)v337) + v1191) == at(u8, v1162 + v1191))) { v1200 = v1191; goto v1171; }
+    u64 v1192 = v1191 + 1;
+    if (v1192 == v1166) v1200 = v1166; else { v1191 = v1192; goto v1190; }
+v1171:;
+    if (v1200 < v1163) goto v498;
+    v333 = v1200 + v337; goto v538;
+v343:;
+    if (!(at(u8, v0 + 320) == 1)) goto v350;
+    v366 = at(ptr, v0 + 328); v367 = at(u64, v0 + 336); goto v353;
+v350:;
+    if (!(at(u8, v0 + 112) == 1)) { v366 = (u8 *)table_55ba7287; v367 = 0; goto v353; }
+    u8 *v357 = at(ptr, v0 + 120);
+    if (!(at(u8, v357 + 312) == 1)) { v366 = (u8 *)table_55ba7287; v367 = 0; goto v353; }
+    v366 = at(ptr, v357 + 320); v367 = at(u64, v357 + 328);
 v353:;
-    font_subset_kind_source_CutOfKindSource_copied(v12, v0, v352);
-    if (!(at(u8, v12) == 1)) { v344 = v348; goto v407; }
-    u8 *v1094 = at(ptr, v12 + 8);
-    u64 v1095 = at(u64, v12 + 16);
-    u64 v1098 = umin64(v1095, v4 - v348);
-    if (!(v1098 < 4)) goto v1101;
-    if (v1098 == 0) { v1132 = 0; goto v1103; }
-    v1105 = 0;
-v1104:;
-    if (!(at(u8, (v3 + (i64)v348) + (i64)v1105) == at(u8, v1094 + (i64)v1105))) goto v1113;
-    u64 v1106 = v1105 + 1;
-    if (v1106 == v1098) { v1132 = v1098; goto v1103; }
-    v1105 = v1106; goto v1104;
-v1113:;
-    if (v1105 < v1098) goto v1116;
-    v1132 = v1098; goto v1103;
-v1101:;
-    if (!(at(u32_1, v3 + (i64)v348) == at(u32_1, v1094))) goto v1116;
-    if (core_cmp_slices_groups_equal(v3 + (i64)v348, v1098, v1094)) { v1132 = v1098; goto v1103; }
-v1116:;
-    v1123 = 0;
-v1122:;
-    if (!(at(u8, (v3 + (i64)v348) + v1123) == at(u8, v1094 + v1123))) { v1132 = v1123; goto v1103; }
-    u64 v1124 = v1123 + 1;
-    if (v1124 == v1098) v1132 = v1098; else { v1123 = v1124; goto v1122; }
-v1103:;
-    if (v1132 < v1095) goto v599;
-    v344 = v1132 + v348; goto v407;
-v354:;
-    at(u64, v11) = 0;
-    at(u8, v11 + 3) = v320;
-    at(u8, v11 + 5) = v321;
-    at(u8, v11 + 7) = v322;
+    flag v368 = v367 == 0;
+    flag v370 = v368 ? v302 : 0;
+    u64 v386 = v368 ? v326 : 44u;
+    at(u8, v11) = 0;
+    at(u8, v11 + 1) = 0;
+    at(u8, v11 + 2) = 0;
+    at(u8, v11 + 3) = v368 ? v313 : 3;
+    at(u8, v11 + 4) = 0;
+    at(u8, v11 + 5) = v370 ? 3 : 0;
+    at(u8, v11 + 6) = 0;
+    at(u8, v11 + 7) = v370 ? 10u : 4;
     at(u8, v11 + 8) = 0;
     at(u8, v11 + 9) = 0;
     at(u8, v11 + 10) = 0;
-    at(u8, v11 + 11) = v323;
+    at(u8, v11 + 11) = v368 ? v314 : 28u;
     at(u8, v11 + 12) = 0;
-    at(u8, v11 + 13) = v324;
+    at(u8, v11 + 13) = v368 ? v315 : 0;
     at(u8, v11 + 14) = 0;
-    at(u8, v11 + 15) = v325;
-    at(u8, v11 + 16) = v326;
-    at(u8, v11 + 17) = v327;
-    at(u8, v11 + 18) = v328;
-    at(u8, v11 + 19) = v329;
+    at(u8, v11 + 15) = v368 ? v316 : 5;
+    at(u32, v11 + 16) = v368 ? v327 : v312;
     at(u8, v11 + 20) = 0;
-    at(u8, v11 + 21) = v330;
+    at(u8, v11 + 21) = v368 ? v317 : 3;
     at(u8, v11 + 22) = 0;
-    at(u8, v11 + 23) = 0;
-    at(u8, v11 + 24) = v331;
-    at(u8, v11 + 25) = v332;
-    at(u8, v11 + 26) = v333;
-    at(u8, v11 + 27) = v334;
-    at(u32, v11 + 28) = 0;
-    at(u8, v11 + 32) = v335;
-    at(u8, v11 + 33) = v336;
-    at(u8, v11 + 34) = v337;
-    at(u8, v11 + 35) = v338;
+    at(u8, v11 + 23) = v368 ? 0 : 10u;
+    at(u8, v11 + 24) = v368 ? v319 : 0;
+    at(u8, v11 + 25) = v368 ? v321 : 0;
+    at(u8, v11 + 26) = v368 ? v323 : 0;
+    at(u8, v11 + 27) = v368 ? v325 : 28u;
+    at(u32, v11 + 28) = v368 ? 0 : 3072u;
+    at(u32, v11 + 32) = v368 ? v328 : v309;
     at(u32, v11 + 36) = 0;
-    at(u64, v11 + 40) = v339;
-    u64 v359 = v4 - v349;
-    u64 v360 = umin64(v339, v359);
-    if (!(v359 < 4)) goto v363;
-    if (v4 == v349) goto v365;
-    v367 = 0;
-v366:;
-    if (!(at(u8, (v3 + (i64)v349) + (i64)v367) == at(u8, v11 + (i64)v367))) goto v375;
-    u64 v368 = v367 + 1;
-    if (v368 == v360) { v395 = v360; goto v377; }
-    v367 = v368; goto v366;
-v375:;
-    if (v367 < v360) goto v379;
-    v395 = v360; goto v377;
-v363:;
-    if (!(at(u32_1, v3 + (i64)v349) == at(u32, v11))) goto v379;
-    if (core_cmp_slices_groups_equal(v3 + (i64)v349, v360, v11)) { v395 = v360; goto v377; }
-v379:;
-    v386 = 0;
-v385:;
-    if (!(at(u8, (v3 + (i64)v349) + v386) == at(u8, v11 + v386))) { v395 = v386; goto v377; }
-    u64 v387 = v386 + 1;
-    if (v387 == v360) v395 = v360; else { v386 = v387; goto v385; }
-v377:;
-    if (!(v395 < v339)) goto v397;
-v365:;
-    goto v28;
-v397:;
+    at(u32, v11 + 40) = v368 ? 0 : v310;
+    at(u32, v11 + 44) = 0;
+    at(u64, v11 + 48) = v386;
+    u64 v388 = v4 - v338;
+    u64 v389 = umin64(v386, v388);
+    if (!(v388 < 4)) goto v392;
+    if (v4 == v338) goto v394;
+    v396 = 0;
+v395:;
+    if (!(at(u8, (v3 + (i64)v338) + (i64)v396) == at(u8, v11 + (i64)v396))) goto v404;
+    u64 v397 = v396 + 1;
+    if (v397 == v389) { v424 = v389; goto v406; }
+    v396 = v397; goto v395;
+v404:;
+    if (v396 < v389) goto v408;
+    v424 = v389; goto v406;
+v392:;
+    if (!(at(u32_1, v3 + (i64)v338) == at(u32, v11))) goto v408;
+    if (core_cmp_slices_groups_equal(v3 + (i64)v338, v389, v11)) { v424 = v389; goto v406; }
+v408:;
+    v415 = 0;
+v414:;
+    if (!(at(u8, (v3 + (i64)v338) + v415) == at(u8, v11 + v415))) { v424 = v415; goto v406; }
+    u64 v416 = v415 + 1;
+    if (v416 == v389) v424 = v389; else { v415 = v416; goto v414; }
+v406:;
+    if (!(v424 < v386)) goto v426;
+v394:;
+    goto v498;
+v426:;
     memset(v10, 0, 1024u);
-    v403 = v395 + v349; v408 = 0;
-v399:;
+    v432 = v424 + v338; v436 = 0;
+v428:;
     memset(v9, 0, 16u);
-    v411 = v408; v414 = 0;
-v410:;
-    font_subset_kind_source_CutOfKindSource_next_run(v9, v0, v411);
-    if (!(at(u8, v9) == 1)) { v409 = v411; v405 = v414; goto v418; }
-    u32 v420 = at(u32, v9 + 8);
-    u64 v422 = v414 * 12u;
-    u16 v421 = at(u16, v9 + 12);
-    at(u32, v10 + v422) = bswap32(at(u32, v9 + 4));
-    at(u32, v10 + v422 + 4) = bswap32(v420);
-    at(u32, v10 + v422 + 8) = bswap32((u32)v421);
-    u32 v412 = v420 + 1;
-    u64 v415 = v414 + 1;
-    if (v415 == 85u) { v409 = v412; v405 = 85u; } else { v411 = v412; v414 = v415; goto v410; }
-v418:;
-    u64 v431 = v405 * 12u;
-    u64 v434 = umin64(v431, v4 - v403);
-    if (!(v434 < 4)) goto v437;
-    if (v434 == 0) { v402 = 0; goto v439; }
-    v441 = 0;
-v440:;
-    if (!(at(u8, (v3 + (i64)v403) + (i64)v441) == at(u8, v10 + (i64)v441))) goto v449;
-    u64 v442 = v441 + 1;
-    if (v442 == v434) { v402 = v434; goto v439; }
-    v441 = v442; goto v440;
-v449:;
-    if (v441 < v434) goto v452;
-    v402 = v434; goto v439;
-v437:;
-    if (!(at(u32_1, v3 + (i64)v403) == at(u32, v10))) goto v452;
-    if (core_cmp_slices_groups_equal(v3 + (i64)v403, v434, v10)) { v402 = v434; goto v439; }
-v452:;
-    v459 = 0;
-v458:;
-    if (!(at(u8, (v3 + (i64)v403) + v459) == at(u8, v10 + v459))) { v402 = v459; goto v439; }
-    u64 v460 = v459 + 1;
-    if (v460 == v434) v402 = v434; else { v459 = v460; goto v458; }
-v439:;
-    if (!(v402 < v431)) goto v400;
-    goto v28;
-v400:;
-    u64 v401 = v402 + v403;
-    if (v405 == 85u) { v403 = v401; v408 = v409; goto v399; }
-    v344 = v401; goto v407;
-v355:;
-    u8 *v470 = at(ptr, v0 + 8);
-    u16 v472 = at(u16, v470 + 64);
-    u8 *v473 = at(ptr, v0 + 168);
-    u64 v474 = at(u64, v0 + 176);
-    if (v474 == 0) { v504 = 0; goto v476; }
-    if (at(u8, v473) & 1) { v514 = 0; goto v480; }
-    if (v474 < 64u) { v504 = 0; goto v476; }
-    v484 = 0;
-v483:;
-    if (v484 == 0xffffffffffffffc0u) goto v486;
-    v491 = 0; v493 = (u8x16){0};
-v490:;
-    u8x16 v494 = v493 | ((-(at(u8x16_1, (v473 + (i64)v484) + (i64)v491) & 1)));
-    u64 v492 = v491 + 16u;
-    if (!(v492 == 64u)) { v491 = v492; v493 = v494; goto v490; }
-    if (!(bits_u8x16(v494) == 0)) { v504 = v484; goto v476; }
-v486:;
-    u64 v485 = v484 + 64u;
-    if ((v474 - v485) < 64u) v504 = v485; else { v484 = v485; goto v483; }
-v476:;
-    if (v504 < v474) v507 = v504; else { v514 = v474; goto v480; }
-v506:;
-    if (at(u8, v473 + v507) & 1) { v514 = v507; goto v480; }
-    u64 v508 = v507 + 1;
-    if (v508 == v474) v514 = v474; else { v507 = v508; goto v506; }
+    v439 = v436; v442 = 0;
+v438:;
+    font_subset_kind_source_CutOfKindSource_next_run(v9, v0, v439);
+    if (!(at(u8, v9) == 1)) { v437 = v439; v434 = v442; goto v446; }
+    u32 v448 = at(u32, v9 + 8);
+    u64 v450 = v442 * 12u;
+    u16 v449 = at(u16, v9 + 12);
+    at(u32, v10 + v450) = bswap32(at(u32, v9 + 4));
+    at(u32, v10 + v450 + 4) = bswap32(v448);
+    at(u32, v10 + v450 + 8) = bswap32((u32)v449);
+    u32 v440 = v448 + 1;
+    u64 v443 = v442 + 1;
+    if (v443 == 85u) { v437 = v440; v434 = 85u; } else { v439 = v440; v442 = v443; goto v438; }
+v446:;
+    u64 v459 = v434 * 12u;
+    u64 v462 = umin64(v459, v4 - v432);
+    if (!(v462 < 4)) goto v465;
+    if (v462 == 0) { v431 = 0; goto v467; }
+    v469 = 0;
+v468:;
+    if (!(at(u8, (v3 + (i64)v432) + (i64)v469) == at(u8, v10 + (i64)v469))) goto v477;
+    u64 v470 = v469 + 1;
+    if (v470 == v462) { v431 = v462; goto v467; }
+    v469 = v470; goto v468;
+v477:;
+    if (v469 < v462) goto v480;
+    v431 = v462; goto v467;
+v465:;
+    if (!(at(u32_1, v3 + (i64)v432) == at(u32, v10))) goto v480;
+    if (core_cmp_slices_groups_equal(v3 + (i64)v432, v462, v10)) { v431 = v462; goto v467; }
 v480:;
-    if (!(v472 > ((u16)v514))) { v673 = v349; goto v518; }
-    u8 *v522 = at(ptr_1, v470 + 32);
-    u8 *v524 = at(ptr_1, v470 + 48);
-    flag v525 = at(u8, v470 + 70) == 0;
-    v527 = v349; v530 = v514;
-v526:;
-    u64 v532 = v530 & 65535u;
-    if (!v525) goto v534;
-    u64 v535 = v532 << 1;
-    v556 = ((u64)bswap16(at(u16_1, v522 + (i64)v535))) << 1; v557 = ((u64)bswap16(at(u16_1, v522 + (i64)v535 + 2))) << 1; goto v546;
-v534:;
-    u64 v547 = v532 << 2;
-    v556 = (u64)bswap32(at(u32_1, v522 + (i64)v547)); v557 = (u64)bswap32(at(u32_1, v522 + (i64)v547 + 4));
-v546:;
-    u64 v559 = v557 - v556;
-    u64 v562 = umin64(v559, v4 - v527);
-    if (!(v562 < 4)) goto v565;
-    if (v562 == 0) { v596 = 0; goto v567; }
-    v569 = 0;
-v568:;
-    if (!(at(u8, (v3 + (i64)v527) + (i64)v569) == at(u8, (v524 + (i64)v556) + (i64)v569))) goto v577;
-    u64 v570 = v569 + 1;
-    if (v570 == v562) { v596 = v562; goto v567; }
-    v569 = v570; goto v568;
-v577:;
-    if (v569 < v562) goto v580;
-    v596 = v562; goto v567;
-v565:;
-    if (!(at(u32_1, v3 + (i64)v527) == at(u32_1, v524 + (i64)v556))) goto v580;
-    if (core_cmp_slices_groups_equal(v3 + (i64)v527, v562, v524 + (i64)v556)) { v596 = v562; goto v567; }
-v580:;
-    v587 = 0;
-v586:;
-    if (!(at(u8, (v3 + (i64)v527) + v587) == at(u8, (v524 + (i64)v556) + v587))) { v596 = v587; goto v567; }
-    u64 v588 = v587 + 1;
-    if (v588 == v562) v596 = v562; else { v587 = v588; goto v586; }
-v567:;
-    u64 v597 = v596 + v527;
-    if (v596 < v559) goto v599;
-    u64 v602 = ((u64)0 - v559) & 3;
-    u64 v605 = umin64(v602, v4 - v597);
-    if (v605 == 0) { v626 = 0; goto v607; }
-    v609 = 0;
-v608:;
-    if (!(at(u8, (v3 + (i64)v597) + (i64)v609) == 0)) goto v615;
-    u64 v610 = v609 + 1;
-    if (v610 == v605) { v626 = v605; goto v607; }
-    v609 = v610; goto v608;
+    v487 = 0;
+v486:;
+    if (!(at(u8, (v3 + (i64)v432) + v487) == at(u8, v10 + v487))) { v431 = v487; goto v467; }
+    u64 v488 = v487 + 1;
+    if (v488 == v462) v431 = v462; else { v487 = v488; goto v486; }
+v467:;
+    if (!(v431 < v459)) goto v429;
+    goto v498;
+v429:;
+    u64 v430 = v431 + v432;
+    if (v434 == 85u) { v432 = v430; v436 = v437; goto v428; }
+    u64 v501 = umin64(v367, v4 - v430);
+    if (!(v501 < 4)) goto v504;
+    if (v501 == 0) { v535 = 0; goto v506; }
+    v508 = 0;
+v507:;
+    if (!(at(u8, (v3 + (i64)v430) + (i64)v508) == at(u8, v366 + (i64)v508))) goto v516;
+    u64 v509 = v508 + 1;
+    if (v509 == v501) { v535 = v501; goto v506; }
+    v508 = v509; goto v507;
+v516:;
+    if (v508 < v501) goto v519;
+    v535 = v501; goto v506;
+v504:;
+    if (!(at(u32_1, v3 + (i64)v430) == at(u32_1, v366))) goto v519;
+    if (core_cmp_slices_groups_equal(v3 + (i64)v430, v501, v366)) { v535 = v501; goto v506; }
+v519:;
+    v526 = 0;
+v525:;
+    if (!(at(u8, (v3 + (i64)v430) + v526) == at(u8, v366 + v526))) { v535 = v526; goto v506; }
+    u64 v527 = v526 + 1;
+    if (v527 == v501) v535 = v501; else { v526 = v527; goto v525; }
+v506:;
+    if (v535 < v367) goto v498;
+    v333 = v535 + v430; goto v538;
+v344:;
+    u8 *v539 = at(ptr, v0 + 8);
+    u16 v541 = at(u16, v539 + 64);
+    u8 *v542 = at(ptr, v0 + 168);
+    u64 v543 = at(u64, v0 + 176);
+    if (v543 == 0) { v573 = 0; goto v545; }
+    if (at(u8, v542) & 1) { v583 = 0; goto v549; }
+    if (v543 < 64u) { v573 = 0; goto v545; }
+    v553 = 0;
+v552:;
+    if (v553 == 0xffffffffffffffc0u) goto v555;
+    v560 = 0; v562 = (u8x16){0};
+v559:;
+    u8x16 v563 = v562 | ((-(at(u8x16_1, (v542 + (i64)v553) + (i64)v560) & 1)));
+    u64 v561 = v560 + 16u;
+    if (!(v561 == 64u)) { v560 = v561; v562 = v563; goto v559; }
+    if (!(bits_u8x16(v563) == 0)) { v573 = v553; goto v545; }
+v555:;
+    u64 v554 = v553 + 64u;
+    if ((v543 - v554) < 64u) v573 = v554; else { v553 = v554; goto v552; }
+v545:;
+    if (v573 < v543) v576 = v573; else { v583 = v543; goto v549; }
+v575:;
+    if (at(u8, v542 + v576) & 1) { v583 = v576; goto v549; }
+    u64 v577 = v576 + 1;
+    if (v577 == v543) v583 = v543; else { v576 = v577; goto v575; }
+v549:;
+    if (!(v541 > ((u16)v583))) { v741 = v338; goto v587; }
+    u8 *v591 = at(ptr_1, v539 + 32);
+    u8 *v593 = at(ptr_1, v539 + 48);
+    flag v594 = at(u8, v539 + 70) == 0;
+    v596 = v338; v599 = v583;
+v595:;
+    u64 v601 = v599 & 65535u;
+    if (!v594) goto v603;
+    u64 v604 = v601 << 1;
+    v625 = ((u64)bswap16(at(u16_1, v591 + (i64)v604))) << 1; v626 = ((u64)bswap16(at(u16_1, v591 + (i64)v604 + 2))) << 1; goto v615;
+v603:;
+    u64 v616 = v601 << 2;
+    v625 = (u64)bswap32(at(u32_1, v591 + (i64)v616)); v626 = (u64)bswap32(at(u32_1, v591 + (i64)v616 + 4));
 v615:;
-    if (v609 < v605) v619 = 0; else { v626 = v605; goto v607; }
-v618:;
-    if (!(at(u8, (v3 + (i64)v597) + v619) == 0)) { v626 = v619; goto v607; }
-    u64 v620 = v619 + 1;
-    if (v620 == v605) v626 = v605; else { v619 = v620; goto v618; }
-v607:;
-    u64 v528 = v626 + v597;
-    if (v626 < v602) goto v599;
-    u64 v630 = (v530 + 1) & 65535u;
-    if (!(v474 > v630)) goto v633;
-    if (at(u8, v473 + v630) & 1) { v531 = v630; goto v529; }
-v633:;
-    if ((v474 - v630) < 64u) { v661 = v630; goto v639; }
-    v641 = v630;
-v640:;
-    if (!(v641 < 0xffffffffffffffc0u)) goto v643;
-    v648 = 0; v650 = (u8x16){0};
-v647:;
-    u8x16 v651 = v650 | ((-(at(u8x16_1, (v473 + (i64)v641) + (i64)v648) & 1)));
-    u64 v649 = v648 + 16u;
-    if (!(v649 == 64u)) { v648 = v649; v650 = v651; goto v647; }
-    if (!(bits_u8x16(v651) == 0)) { v661 = v641; goto v639; }
-v643:;
-    u64 v642 = v641 + 64u;
-    if ((v474 - v642) < 64u) v661 = v642; else { v641 = v642; goto v640; }
-v639:;
-    if (v661 < v474) v664 = v661; else { v531 = v474; goto v529; }
-v663:;
-    if (at(u8, v473 + v664) & 1) { v531 = v664; goto v529; }
-    u64 v665 = v664 + 1;
-    if (v665 == v474) v531 = v474; else { v664 = v665; goto v663; }
-v529:;
-    if (v472 > ((u16)v531)) { v527 = v528; v530 = v531; goto v526; }
-    v673 = v528;
-v518:;
-    u64 v676 = umin64(v300, v4 - v673);
-    if (!(v676 < 4)) goto v679;
-    if (v676 == 0) { v707 = 0; goto v681; }
-    v683 = 0;
-v682:;
-    if (!(at(u8, (v3 + (i64)v673) + (i64)v683) == 0)) goto v689;
-    u64 v684 = v683 + 1;
-    if (v684 == v676) { v707 = v676; goto v681; }
-    v683 = v684; goto v682;
-v689:;
-    if (v683 < v676) goto v692;
-    v707 = v676; goto v681;
-v679:;
-    if (!(at(u32_1, v3 + (i64)v673) == 0)) goto v692;
-    if (!core_cmp_slices_groups_equal(v3 + (i64)v673, 4, (u8 *)table_18327a07)) goto v692;
-    v344 = v673 + 4; goto v407;
-v692:;
-    v700 = 0;
-v693:;
-    if (!(at(u8, (v3 + (i64)v673) + v700) == 0)) { v707 = v700; goto v681; }
-    u64 v701 = v700 + 1;
-    if (v701 == v676) v707 = v676; else { v700 = v701; goto v693; }
-v681:;
-    if (v707 < v300) goto v599;
-    v344 = v707 + v673; goto v407;
-v356:;
-    u8 *v711 = at(ptr_1, at(ptr, v0 + 8));
-    u16 v713 = at(u16_1, v711 + 4);
-    u64 v715 = (u64)bswap16(v713);
-    if (v713 == 0) { v751 = (u8 *)table_d0e67785; v752 = 0xffffffffffffffccu; goto v717; }
-    v721 = 0;
-v718:;
-    u64 v723 = v721 << 4;
-    if (!((((at(u8, v711 + (i64)v723 + 12) == 104u) & (at(u8, v711 + (i64)v723 + 13) == 101u)) & (at(u8, v711 + (i64)v723 + 14) == 97u)) & (at(u8, v711 + (i64)v723 + 15) == 100u))) goto v719;
-    v751 = v711 + (i64)((u64)bswap32(at(u32_1, v711 + (i64)v723 + 20))); v752 = ((u64)bswap32(at(u32_1, v711 + (i64)v723 + 24))) - 52u; goto v717;
-v719:;
-    u64 v720 = v721 + 1;
-    if (v720 == v715) { v751 = (u8 *)table_d0e67785; v752 = 0xffffffffffffffccu; } else { v721 = v720; goto v718; }
-v717:;
-    u64 v754 = v4 - v349;
-    u64 v755 = umin64(v754, 8);
-    if (!(v754 < 4)) goto v758;
-    if (v4 == v349) goto v599;
-    v761 = 0;
+    u64 v628 = v626 - v625;
+    u64 v631 = umin64(v628, v4 - v596);
+    if (!(v631 < 4)) goto v634;
+    if (v631 == 0) { v665 = 0; goto v636; }
+    v638 = 0;
+v637:;
+    if (!(at(u8, (v3 + (i64)v596) + (i64)v638) == at(u8, (v593 + (i64)v625) + (i64)v638))) goto v646;
+    u64 v639 = v638 + 1;
+    if (v639 == v631) { v665 = v631; goto v636; }
+    v638 = v639; goto v637;
+v646:;
+    if (v638 < v631) goto v649;
+    v665 = v631; goto v636;
+v634:;
+    if (!(at(u32_1, v3 + (i64)v596) == at(u32_1, v593 + (i64)v625))) goto v649;
+    if (core_cmp_slices_groups_equal(v3 + (i64)v596, v631, v593 + (i64)v625)) { v665 = v631; goto v636; }
+v649:;
+    v656 = 0;
+v655:;
+    if (!(at(u8, (v3 + (i64)v596) + v656) == at(u8, (v593 + (i64)v625) + v656))) { v665 = v656; goto v636; }
+    u64 v657 = v656 + 1;
+    if (v657 == v631) v665 = v631; else { v656 = v657; goto v655; }
+v636:;
+    u64 v666 = v665 + v596;
+    if (v665 < v628) goto v498;
+    u64 v670 = ((u64)0 - v628) & 3;
+    u64 v673 = umin64(v670, v4 - v666);
+    if (v673 == 0) { v694 = 0; goto v675; }
+    v677 = 0;
+v676:;
+    if (!(at(u8, (v3 + (i64)v666) + (i64)v677) == 0)) goto v683;
+    u64 v678 = v677 + 1;
+    if (v678 == v673) { v694 = v673; goto v675; }
+    v677 = v678; goto v676;
+v683:;
+    if (v677 < v673) v687 = 0; else { v694 = v673; goto v675; }
+v686:;
+    if (!(at(u8, (v3 + (i64)v666) + v687) == 0)) { v694 = v687; goto v675; }
+    u64 v688 = v687 + 1;
+    if (v688 == v673) v694 = v673; else { v687 = v688; goto v686; }
+v675:;
+    u64 v597 = v694 + v666;
+    if (v694 < v670) goto v498;
+    u64 v698 = (v599 + 1) & 65535u;
+    if (!(v543 > v698)) goto v701;
+    if (at(u8, v542 + v698) & 1) { v600 = v698; goto v598; }
+v701:;
+    if ((v543 - v698) < 64u) { v729 = v698; goto v707; }
+    v709 = v698;
+v708:;
+    if (!(v709 < 0xffffffffffffffc0u)) goto v711;
+    v716 = 0; v718 = (u8x16){0};
+v715:;
+    u8x16 v719 = v718 | ((-(at(u8x16_1, (v542 + (i64)v709) + (i64)v716) & 1)));
+    u64 v717 = v716 + 16u;
+    if (!(v717 == 64u)) { v716 = v717; v718 = v719; goto v715; }
+    if (!(bits_u8x16(v719) == 0)) { v729 = v709; goto v707; }
+v711:;
+    u64 v710 = v709 + 64u;
+    if ((v543 - v710) < 64u) v729 = v710; else { v709 = v710; goto v708; }
+v707:;
+    if (v729 < v543) v732 = v729; else { v600 = v543; goto v598; }
+v731:;
+    if (at(u8, v542 + v732) & 1) { v600 = v732; goto v598; }
+    u64 v733 = v732 + 1;
+    if (v733 == v543) v600 = v543; else { v732 = v733; goto v731; }
+v598:;
+    if (v541 > ((u16)v600)) { v596 = v597; v599 = v600; goto v595; }
+    v741 = v597;
+v587:;
+    u64 v744 = umin64(v305, v4 - v741);
+    if (!(v744 < 4)) goto v747;
+    if (v744 == 0) { v775 = 0; goto v749; }
+    v751 = 0;
+v750:;
+    if (!(at(u8, (v3 + (i64)v741) + (i64)v751) == 0)) goto v757;
+    u64 v752 = v751 + 1;
+    if (v752 == v744) { v775 = v744; goto v749; }
+    v751 = v752; goto v750;
+v757:;
+    if (v751 < v744) goto v760;
+    v775 = v744; goto v749;
+v747:;
+    if (!(at(u32_1, v3 + (i64)v741) == 0)) goto v760;
+    if (!core_cmp_slices_groups_equal(v3 + (i64)v741, 4, (u8 *)table_18327a07)) goto v760;
+    v333 = v741 + 4; goto v538;
 v760:;
-    if (!(at(u8, (v3 + (i64)v349) + (i64)v761) == at(u8, v751 + (i64)v761))) goto v769;
-    u64 v762 = v761 + 1;
-    if (v762 == v755) { v789 = v755; goto v771; }
-    v761 = v762; goto v760;
-v769:;
-    if (v761 < v755) goto v773;
-    v789 = v755; goto v771;
-v758:;
-    if (!(at(u32_1, v3 + (i64)v349) == at(u32_1, v751))) goto v773;
-    if (core_cmp_slices_groups_equal(v3 + (i64)v349, v755, v751)) { v789 = v755; goto v771; }
-v773:;
-    v780 = 0;
-v779:;
-    if (!(at(u8, (v3 + (i64)v349) + v780) == at(u8, v751 + v780))) { v789 = v780; goto v771; }
-    u64 v781 = v780 + 1;
-    if (v781 == v755) v789 = v755; else { v780 = v781; goto v779; }
-v771:;
-    u64 v790 = v789 + v349;
-    if (v789 < 8) goto v599;
-    at(u32, v6) = v294;
-    u64 v794 = v4 - v790;
-    u64 v795 = umin64(v794, 4);
-    if (!(v794 < 4)) goto v798;
-    if (v4 == v790) goto v800;
-    v802 = 0;
-v801:;
-    if (!(at(u8, (v3 + (i64)v790) + (i64)v802) == at(u8, v6 + (i64)v802))) goto v810;
-    u64 v803 = v802 + 1;
-    if (v803 == v795) { v830 = v795; goto v812; }
-    v802 = v803; goto v801;
-v810:;
-    if (v802 < v795) goto v814;
-    v830 = v795; goto v812;
-v798:;
-    if (!(at(u32_1, v3 + (i64)v790) == v294)) goto v814;
-    if (core_cmp_slices_groups_equal(v3 + (i64)v790, v795, v6)) { v832 = v795; goto v819; }
-v814:;
-    v821 = 0;
-v820:;
-    if (!(at(u8, (v3 + (i64)v790) + v821) == at(u8, v6 + v821))) { v830 = v821; goto v812; }
-    u64 v822 = v821 + 1;
-    if (v822 == v795) v830 = v795; else { v821 = v822; goto v820; }
-v812:;
-    if (!(v830 < 4)) { v832 = v830; goto v819; }
-v800:;
-    goto v599;
-v819:;
-    u64 v833 = v832 + v790;
-    u64 v836 = v4 - v833;
-    u64 v837 = umin64(v836, 38u);
-    if (!(v836 < 4)) goto v840;
-    if (v4 == v833) goto v599;
-    v843 = 0;
-v842:;
-    if (!(at(u8, (v3 + (i64)v833) + (i64)v843) == at(u8, (v751 + 12) + (i64)v843))) goto v851;
-    u64 v844 = v843 + 1;
-    if (v844 == v837) { v871 = v837; goto v853; }
-    v843 = v844; goto v842;
-v851:;
-    if (v843 < v837) goto v855;
-    v871 = v837; goto v853;
-v840:;
-    if (!(at(u32_1, v3 + (i64)v833) == at(u32_1, v751 + 12))) goto v855;
-    if (core_cmp_slices_groups_equal(v3 + (i64)v833, v837, v751 + 12)) { v871 = v837; goto v853; }
-v855:;
-    v862 = 0;
-v861:;
-    if (!(at(u8, (v3 + (i64)v833) + v862) == at(u8, (v751 + 12) + v862))) { v871 = v862; goto v853; }
-    u64 v863 = v862 + 1;
-    if (v863 == v837) v871 = v837; else { v862 = v863; goto v861; }
-v853:;
-    u64 v872 = v871 + v833;
-    if (v871 < 38u) goto v599;
-    u64 v877 = umin64(v4 - v872, 2);
-    if (v4 == v872) goto v599;
-    v880 = 0;
-v879:;
-    if (!(at(u8, (v3 + (i64)v872) + (i64)v880) == at(u8, (u8 *)table_87e6e93c + (i64)v880))) goto v888;
-    u64 v881 = v880 + 1;
-    if (v881 == v877) { v902 = v877; goto v890; }
-    v880 = v881; goto v879;
+    v768 = 0;
+v761:;
+    if (!(at(u8, (v3 + (i64)v741) + v768) == 0)) { v775 = v768; goto v749; }
+    u64 v769 = v768 + 1;
+    if (v769 == v744) v775 = v744; else { v768 = v769; goto v761; }
+v749:;
+    if (v775 < v305) goto v498;
+    v333 = v775 + v741; goto v538;
+v345:;
+    u8 *v779 = at(ptr_1, at(ptr, v0 + 8));
+    u16 v781 = at(u16_1, v779 + 4);
+    u64 v783 = (u64)bswap16(v781);
+    if (v781 == 0) { v819 = (u8 *)table_55ba7287; v820 = 0xffffffffffffffccu; goto v785; }
+    v789 = 0;
+v786:;
+    u64 v791 = v789 << 4;
+    if (!((((at(u8, v779 + (i64)v791 + 12) == 104u) & (at(u8, v779 + (i64)v791 + 13) == 101u)) & (at(u8, v779 + (i64)v791 + 14) == 97u)) & (at(u8, v779 + (i64)v791 + 15) == 100u))) goto v787;
+    v819 = v779 + (i64)((u64)bswap32(at(u32_1, v779 + (i64)v791 + 20))); v820 = ((u64)bswap32(at(u32_1, v779 + (i64)v791 + 24))) - 52u; goto v785;
+v787:;
+    u64 v788 = v789 + 1;
+    if (v788 == v783) { v819 = (u8 *)table_55ba7287; v820 = 0xffffffffffffffccu; } else { v789 = v788; goto v786; }
+v785:;
+    u64 v822 = v4 - v338;
+    u64 v823 = umin64(v822, 8);
+    if (!(v822 < 4)) goto v826;
+    if (v4 == v338) goto v498;
+    v829 = 0;
+v828:;
+    if (!(at(u8, (v3 + (i64)v338) + (i64)v829) == at(u8, v819 + (i64)v829))) goto v837;
+    u64 v830 = v829 + 1;
+    if (v830 == v823) { v857 = v823; goto v839; }
+    v829 = v830; goto v828;
+v837:;
+    if (v829 < v823) goto v841;
+    v857 = v823; goto v839;
+v826:;
+    if (!(at(u32_1, v3 + (i64)v338) == at(u32_1, v819))) goto v841;
+    if (core_cmp_slices_groups_equal(v3 + (i64)v338, v823, v819)) { v857 = v823; goto v839; }
+v841:;
+    v848 = 0;
+v847:;
+    if (!(at(u8, (v3 + (i64)v338) + v848) == at(u8, v819 + v848))) { v857 = v848; goto v839; }
+    u64 v849 = v848 + 1;
+    if (v849 == v823) v857 = v823; else { v848 = v849; goto v847; }
+v839:;
+    u64 v858 = v857 + v338;
+    if (v857 < 8) goto v498;
+    at(u32, v6) = v299;
+    u64 v862 = v4 - v858;
+    u64 v863 = umin64(v862, 4);
+    if (!(v862 < 4)) goto v866;
+    if (v4 == v858) goto v868;
+    v870 = 0;
+v869:;
+    if (!(at(u8, (v3 + (i64)v858) + (i64)v870) == at(u8, v6 + (i64)v870))) goto v878;
+    u64 v871 = v870 + 1;
+    if (v871 == v863) { v898 = v863; goto v880; }
+    v870 = v871; goto v869;
+v878:;
+    if (v870 < v863) goto v882;
+    v898 = v863; goto v880;
+v866:;
+    if (!(at(u32_1, v3 + (i64)v858) == v299)) goto v882;
+    if (core_cmp_slices_groups_equal(v3 + (i64)v858, v863, v6)) { v900 = v863; goto v887; }
+v882:;
+    v889 = 0;
 v888:;
-    if (v880 < v877) v893 = 0; else { v902 = v877; goto v890; }
-v892:;
-    if (!(at(u8, (v3 + (i64)v872) + v893) == at(u8, (u8 *)table_87e6e93c + v893))) { v902 = v893; goto v890; }
-    u64 v894 = v893 + 1;
-    if (v894 == v877) v902 = v877; else { v893 = v894; goto v892; }
-v890:;
-    u64 v903 = v902 + v872;
-    if (v902 < 2) goto v599;
-    u64 v909 = umin64(v752, v4 - v903);
-    if (!(v909 < 4)) goto v912;
-    if (v909 == 0) { v943 = 0; goto v914; }
-    v916 = 0;
-v915:;
-    if (!(at(u8, (v3 + (i64)v903) + (i64)v916) == at(u8, (v751 + 52) + (i64)v916))) goto v924;
-    u64 v917 = v916 + 1;
-    if (v917 == v909) { v943 = v909; goto v914; }
-    v916 = v917; goto v915;
-v924:;
-    if (v916 < v909) goto v927;
-    v943 = v909; goto v914;
-v912:;
-    if (!(at(u32_1, v3 + (i64)v903) == at(u32_1, v751 + 52))) goto v927;
-    if (core_cmp_slices_groups_equal(v3 + (i64)v903, v909, v751 + 52)) { v943 = v909; goto v914; }
-v927:;
-    v934 = 0;
-v933:;
-    if (!(at(u8, (v3 + (i64)v903) + v934) == at(u8, (v751 + 52) + v934))) { v943 = v934; goto v914; }
-    u64 v935 = v934 + 1;
-    if (v935 == v909) v943 = v909; else { v934 = v935; goto v933; }
-v914:;
-    if (!(v943 < v752)) { v344 = v943 + v903; goto v407; }
-v599:;
-    goto v28;
-v357:;
-    memset(v8, 0, 1024u);
-    u8 *v946 = at(ptr, v0 + 168);
-    u64 v947 = at(u64, v0 + 176);
-    if (v947 == 0) { v977 = 0; goto v949; }
-    if (at(u8, v946) & 1) { v987 = 0; goto v953; }
-    if (v947 < 64u) { v977 = 0; goto v949; }
-    v957 = 0;
+    if (!(at(u8, (v3 + (i64)v858) + v889) == at(u8, v6 + v889))) { v898 = v889; goto v880; }
+    u64 v890 = v889 + 1;
+    if (v890 == v863) v898 = v863; else { v889 = v890; goto v888; }
+v880:;
+    if (!(v898 < 4)) { v900 = v898; goto v887; }
+v868:;
+    goto v498;
+v887:;
+    u64 v901 = v900 + v858;
+    u64 v904 = v4 - v901;
+    u64 v905 = umin64(v904, 38u);
+    if (!(v904 < 4)) goto v908;
+    if (v4 == v901) goto v498;
+    v911 = 0;
+v910:;
+    if (!(at(u8, (v3 + (i64)v901) + (i64)v911) == at(u8, (v819 + 12) + (i64)v911))) goto v919;
+    u64 v912 = v911 + 1;
+    if (v912 == v905) { v939 = v905; goto v921; }
+    v911 = v912; goto v910;
+v919:;
+    if (v911 < v905) goto v923;
+    v939 = v905; goto v921;
+v908:;
+    if (!(at(u32_1, v3 + (i64)v901) == at(u32_1, v819 + 12))) goto v923;
+    if (core_cmp_slices_groups_equal(v3 + (i64)v901, v905, v819 + 12)) { v939 = v905; goto v921; }
+v923:;
+    v930 = 0;
+v929:;
+    if (!(at(u8, (v3 + (i64)v901) + v930) == at(u8, (v819 + 12) + v930))) { v939 = v930; goto v921; }
+    u64 v931 = v930 + 1;
+    if (v931 == v905) v939 = v905; else { v930 = v931; goto v929; }
+v921:;
+    u64 v940 = v939 + v901;
+    if (v939 < 38u) goto v498;
+    u64 v945 = umin64(v4 - v940, 2);
+    if (v4 == v940) goto v498;
+    v948 = 0;
+v947:;
+    if (!(at(u8, (v3 + (i64)v940) + (i64)v948) == at(u8, (u8 *)table_87e6e93c + (i64)v948))) goto v956;
+    u64 v949 = v948 + 1;
+    if (v949 == v945) { v970 = v945; goto v958; }
+    v948 = v949; goto v947;
 v956:;
-    if (v957 == 0xffffffffffffffc0u) goto v959;
-    v964 = 0; v966 = (u8x16){0};
-v963:;
-    u8x16 v967 = v966 | ((-(at(u8x16_1, (v946 + (i64)v957) + (i64)v964) & 1)));
-    u64 v965 = v964 + 16u;
-    if (!(v965 == 64u)) { v964 = v965; v966 = v967; goto v963; }
-    if (!(bits_u8x16(v967) == 0)) { v977 = v957; goto v949; }
-v959:;
-    u64 v958 = v957 + 64u;
-    if ((v947 - v958) < 64u) v977 = v958; else { v957 = v958; goto v956; }
-v949:;
-    if (v977 < v947) v980 = v977; else { v987 = v947; goto v953; }
-v979:;
-    if (at(u8, v946 + v980) & 1) { v987 = v980; goto v953; }
-    u64 v981 = v980 + 1;
-    if (v981 == v947) v987 = v947; else { v980 = v981; goto v979; }
-v953:;
-    u16 v990 = at(u16, at(ptr, v0 + 8) + 64);
-    at(u32, v7) = 0;
-    u64 v992 = v4 - v348;
-    u64 v993 = umin64(v992, 4);
-    if (!(v992 < 4)) goto v996;
-    if (v4 == v348) goto v998;
-    v1000 = 0;
-v999:;
-    if (!(at(u8, (v3 + (i64)v348) + (i64)v1000) == at(u8, v7 + (i64)v1000))) goto v1008;
-    u64 v1001 = v1000 + 1;
-    if (v1001 == v993) { v1028 = v993; goto v1010; }
-    v1000 = v1001; goto v999;
-v1008:;
-    if (v1000 < v993) goto v1012;
-    v1028 = v993; goto v1010;
-v996:;
-    if (!(at(u32_1, v3 + (i64)v348) == 0)) goto v1012;
-    if (core_cmp_slices_groups_equal(v3 + (i64)v348, v993, v7)) { v1031 = v993; goto v1017; }
-v1012:;
-    v1019 = 0;
-v1018:;
-    if (!(at(u8, (v3 + (i64)v348) + v1019) == at(u8, v7 + v1019))) { v1028 = v1019; goto v1010; }
-    u64 v1020 = v1019 + 1;
-    if (v1020 == v993) v1028 = v993; else { v1019 = v1020; goto v1018; }
-v1010:;
-    if (!(v1028 < 4)) { v1031 = v1028; goto v1017; }
-v998:;
-    goto v1030;
-v1017:;
-    u64 v1032 = v1031 + v348;
-    if (v990 == 0) { v1135 = v1032; goto v1034; }
-    v1038 = v1032; v1041 = 0; v1043 = (u16)v987; v1045 = 0;
-v1037:;
-    u16 v1048 = umin16((u16)(v990 - v1045), 256u);
-    u16 v1046 = (u16)(v1048 + v1045);
-    u32_u16 v1049 = font_write_made_loca_gather_offsets(v0, v1045, v1046, v1041, v1043, v8);
-    u64 v1051 = (u64)((u16)((u32)v1048 << 2));
-    u64 v1054 = umin64(v1051, v4 - v1038);
-    if (!(v1054 < 4)) goto v1057;
-    if (v1054 == 0) { v1088 = 0; goto v1059; }
-    v1061 = 0;
-v1060:;
-    if (!(at(u8, (v3 + (i64)v1038) + (i64)v1061) == at(u8, v8 + (i64)v1061))) goto v1069;
-    u64 v1062 = v1061 + 1;
-    if (v1062 == v1054) { v1088 = v1054; goto v1059; }
-    v1061 = v1062; goto v1060;
-v1069:;
-    if (v1061 < v1054) goto v1072;
-    v1088 = v1054; goto v1059;
-v1057:;
-    if (!(at(u32_1, v3 + (i64)v1038) == at(u32, v8))) goto v1072;
-    if (core_cmp_slices_groups_equal(v3 + (i64)v1038, v1054, v8)) { v1088 = v1054; goto v1059; }
-v1072:;
-    v1079 = 0;
-v1078:;
-    if (!(at(u8, (v3 + (i64)v1038) + v1079) == at(u8, v8 + v1079))) { v1088 = v1079; goto v1059; }
-    u64 v1080 = v1079 + 1;
-    if (v1080 == v1054) v1088 = v1054; else { v1079 = v1080; goto v1078; }
-v1059:;
-    if (!(v1088 < v1051)) goto v1040;
-v1030:;
+    if (v948 < v945) v961 = 0; else { v970 = v945; goto v958; }
+v960:;
+    if (!(at(u8, (v3 + (i64)v940) + v961) == at(u8, (u8 *)table_87e6e93c + v961))) { v970 = v961; goto v958; }
+    u64 v962 = v961 + 1;
+    if (v962 == v945) v970 = v945; else { v961 = v962; goto v960; }
+v958:;
+    u64 v971 = v970 + v940;
+    if (v970 < 2) goto v498;
+    u64 v977 = umin64(v820, v4 - v971);
+    if (!(v977 < 4)) goto v980;
+    if (v977 == 0) { v1011 = 0; goto v982; }
+    v984 = 0;
+v983:;
+    if (!(at(u8, (v3 + (i64)v971) + (i64)v984) == at(u8, (v819 + 52) + (i64)v984))) goto v992;
+    u64 v985 = v984 + 1;
+    if (v985 == v977) { v1011 = v977; goto v982; }
+    v984 = v985; goto v983;
+v992:;
+    if (v984 < v977) goto v995;
+    v1011 = v977; goto v982;
+v980:;
+    if (!(at(u32_1, v3 + (i64)v971) == at(u32_1, v819 + 52))) goto v995;
+    if (core_cmp_slices_groups_equal(v3 + (i64)v971, v977, v819 + 52)) { v1011 = v977; goto v982; }
+v995:;
+    v1002 = 0;
+v1001:;
+    if (!(at(u8, (v3 + (i64)v971) + v1002) == at(u8, (v819 + 52) + v1002))) { v1011 = v1002; goto v982; }
+    u64 v1003 = v1002 + 1;
+    if (v1003 == v977) v1011 = v977; else { v1002 = v1003; goto v1001; }
+v982:;
+    if (!(v1011 < v820)) { v333 = v1011 + v971; goto v538; }
+v498:;
     goto v28;
-v1040:;
-    u64 v1039 = v1088 + v1038;
-    if (v1046 < v990) { v1038 = v1039; v1041 = v1049._0; v1043 = v1049._1; v1045 = v1046; goto v1037; }
-    v1135 = v1039;
-v1034:;
-    v344 = v1135;
-v407:;
-    u64 v1142 = (u64)(((u32)0 - at(u32, v20 + (i64)(v346 * 12u) + 8)) & 3);
-    u64 v1145 = umin64(v1142, v4 - v344);
-    if (v1145 == 0) { v343 = 0; goto v1147; }
-    v1149 = 0;
-v1148:;
-    if (!(at(u8, (v3 + (i64)v344) + (i64)v1149) == 0)) goto v1155;
-    u64 v1150 = v1149 + 1;
-    if (v1150 == v1145) { v343 = v1145; goto v1147; }
-    v1149 = v1150; goto v1148;
-v1155:;
-    if (v1149 < v1145) v1159 = 0; else { v343 = v1145; goto v1147; }
-v1158:;
-    if (!(at(u8, (v3 + (i64)v344) + v1159) == 0)) { v343 = v1159; goto v1147; }
-    u64 v1160 = v1159 + 1;
-    if (v1160 == v1145) v343 = v1145; else { v1159 = v1160; goto v1158; }
-v1147:;
-    if (!(v343 < v1142)) goto v341;
+v346:;
+    memset(v8, 0, 1024u);
+    u8 *v1014 = at(ptr, v0 + 168);
+    u64 v1015 = at(u64, v0 + 176);
+    if (v1015 == 0) { v1045 = 0; goto v1017; }
+    if (at(u8, v1014) & 1) { v1055 = 0; goto v1021; }
+    if (v1015 < 64u) { v1045 = 0; goto v1017; }
+    v1025 = 0;
+v1024:;
+    if (v1025 == 0xffffffffffffffc0u) goto v1027;
+    v1032 = 0; v1034 = (u8x16){0};
+v1031:;
+    u8x16 v1035 = v1034 | ((-(at(u8x16_1, (v1014 + (i64)v1025) + (i64)v1032) & 1)));
+    u64 v1033 = v1032 + 16u;
+    if (!(v1033 == 64u)) { v1032 = v1033; v1034 = v1035; goto v1031; }
+    if (!(bits_u8x16(v1035) == 0)) { v1045 = v1025; goto v1017; }
+v1027:;
+    u64 v1026 = v1025 + 64u;
+    if ((v1015 - v1026) < 64u) v1045 = v1026; else { v1025 = v1026; goto v1024; }
+v1017:;
+    if (v1045 < v1015) v1048 = v1045; else { v1055 = v1015; goto v1021; }
+v1047:;
+    if (at(u8, v1014 + v1048) & 1) { v1055 = v1048; goto v1021; }
+    u64 v1049 = v1048 + 1;
+    if (v1049 == v1015) v1055 = v1015; else { v1048 = v1049; goto v1047; }
+v1021:;
+    u16 v1058 = at(u16, at(ptr, v0 + 8) + 64);
+    at(u32, v7) = 0;
+    u64 v1060 = v4 - v337;
+    u64 v1061 = umin64(v1060, 4);
+    if (!(v1060 < 4)) goto v1064;
+    if (v4 == v337) goto v1066;
+    v1068 = 0;
+v1067:;
+    if (!(at(u8, (v3 + (i64)v337) + (i64)v1068) == at(u8, v7 + (i64)v1068))) goto v1076;
+    u64 v1069 = v1068 + 1;
+    if (v1069 == v1061) { v1096 = v1061; goto v1078; }
+    v1068 = v1069; goto v1067;
+v1076:;
+    if (v1068 < v1061) goto v1080;
+    v1096 = v1061; goto v1078;
+v1064:;
+    if (!(at(u32_1, v3 + (i64)v337) == 0)) goto v1080;
+    if (core_cmp_slices_groups_equal(v3 + (i64)v337, v1061, v7)) { v1099 = v1061; goto v1085; }
+v1080:;
+    v1087 = 0;
+v1086:;
+    if (!(at(u8, (v3 + (i64)v337) + v1087) == at(u8, v7 + v1087))) { v1096 = v1087; goto v1078; }
+    u64 v1088 = v1087 + 1;
+    if (v1088 == v1061) v1096 = v1061; else { v1087 = v1088; goto v1086; }
+v1078:;
+    if (!(v1096 < 4)) { v1099 = v1096; goto v1085; }
+v1066:;
+    goto v1098;
+v1085:;
+    u64 v1100 = v1099 + v337;
+    if (v1058 == 0) { v1203 = v1100; goto v1102; }
+    v1106 = v1100; v1109 = 0; v1111 = (u16)v1055; v1113 = 0;
+v1105:;
+    u16 v1116 = umin16((u16)(v1058 - v1113), 256u);
+    u16 v1114 = (u16)(v1116 + v1113);
+    u32_u16 v1117 = font_write_made_loca_gather_offsets(v0, v1113, v1114, v1109, v1111, v8);
+    u64 v1119 = (u64)((u16)((u32)v1116 << 2));
+    u64 v1122 = umin64(v1119, v4 - v1106);
+    if (!(v1122 < 4)) goto v1125;
+    if (v1122 == 0) { v1156 = 0; goto v1127; }
+    v1129 = 0;
+v1128:;
+    if (!(at(u8, (v3 + (i64)v1106) + (i64)v1129) == at(u8, v8 + (i64)v1129))) goto v1137;
+    u64 v1130 = v1129 + 1;
+    if (v1130 == v1122) { v1156 = v1122; goto v1127; }
+    v1129 = v1130; goto v1128;
+v1137:;
+    if (v1129 < v1122) goto v1140;
+    v1156 = v1122; goto v1127;
+v1125:;
+    if (!(at(u32_1, v3 + (i64)v1106) == at(u32, v8))) goto v1140;
+    if (core_cmp_slices_groups_equal(v3 + (i64)v1106, v1122, v8)) { v1156 = v1122; goto v1127; }
+v1140:;
+    v1147 = 0;
+v1146:;
+    if (!(at(u8, (v3 + (i64)v1106) + v1147) == at(u8, v8 + v1147))) { v1156 = v1147; goto v1127; }
+    u64 v1148 = v1147 + 1;
+    if (v1148 == v1122) v1156 = v1122; else { v1147 = v1148; goto v1146; }
+v1127:;
+    if (!(v1156 < v1119)) goto v1108;
+v1098:;
+    goto v28;
+v1108:;
+    u64 v1107 = v1156 + v1106;
+    if (v1114 < v1058) { v1106 = v1107; v1109 = v1117._0; v1111 = v1117._1; v1113 = v1114; goto v1105; }
+    v1203 = v1107;
+v1102:;
+    v333 = v1203;
+v538:;
+    u64 v1210 = (u64)(((u32)0 - at(u32, v20 + (i64)(v335 * 12u) + 8)) & 3);
+    u64 v1213 = umin64(v1210, v4 - v333);
+    if (v1213 == 0) { v332 = 0; goto v1215; }
+    v1217 = 0;
+v1216:;
+    if (!(at(u8, (v3 + (i64)v333) + (i64)v1217) == 0)) goto v1223;
+    u64 v1218 = v1217 + 1;
+    if (v1218 == v1213) { v332 = v1213; goto v1215; }
+    v1217 = v1218; goto v1216;
+v1223:;
+    if (v1217 < v1213) v1227 = 0; else { v332 = v1213; goto v1215; }
+v1226:;
+    if (!(at(u8, (v3 + (i64)v333) + v1227) == 0)) { v332 = v1227; goto v1215; }
+    u64 v1228 = v1227 + 1;
+    if (v1228 == v1213) v332 = v1213; else { v1227 = v1228; goto v1226; }
+v1215:;
+    if (!(v332 < v1210)) goto v330;
 v28:;
     return 0;
-v341:;
-    u64 v342 = v343 + v344;
-    u64 v345 = v346 + 1;
-    if (!(v345 == 29u)) { v348 = v342; v349 = v342; v346 = v345; goto v340; }
-    return v342 == v4;
+v330:;
+    u64 v331 = v332 + v333;
+    u64 v334 = v335 + 1;
+    if (!(v334 == 29u)) { v337 = v331; v338 = v331; v335 = v334; goto v329; }
+    return v331 == v4;
 }
 
 void font_write_whole_file_measure(u8 *v0, u8 *v1) {
-    _Alignas(4) u8 v3[64], v4[20], v5[32], v7[4], v8[4], v9[4], v13[348], v15[348], v16[344];
-    u8 v6[12], *v408, *v413, *v421, *v84, *v162, *v167, *v175, *v236, *v247, *v285, *v290, *v298, *v524, *v598;
-    _Alignas(8) u8 v10[48], v11[24], v12[16], v17[24], v18[344], v20[344];
-    _Alignas(2) u8 v14[6], v19[6], v21[6];
-    u64 v64, v395, v409, v415, v420, v86, v103, v149, v163, v169, v174, v185, v206, v237, v249, v272, v286, v292, v297, v317, v358, v440, v490, v526, v567, v616, v617, v618, v621, v622;
-    u32x4 v397, v151, v274;
-    u32 v407, v411, v422, v82, v118, v161, v165, v176, v245, v284, v288, v299, v332, v335, v426, v427, v428, v522, v562, v565, v605, v606, v620;
-    u16 v113, v121, v327, v337, v488, v510, v511, v512, v619;
-    u16x8 v442;
-    memset(v18, 0, 344u);
-    memset(v19, 0, 6);
-    memset(v20, 0, 344u);
-    memset(v21, 0, 6);
-    memset(v17, 0, 24u);
-    font_write_size_file_size_092d(v17, v1);
-    u64 v23 = at(u64, v17 + 16);
-    if (!(v23 > 134217728u)) goto v26;
-    v616 = 1; v617 = 0; v618 = 0; v619 = 0; v620 = 0; v621 = v23; v622 = 0; goto v615;
-v26:;
-    u64 v27 = at(u64, v17);
-    u64 v29 = at(u64, v17 + 8);
-    memset(v14, 0, 6);
-    memset(v15, 0, 348u);
-    memset(v16, 0, 344u);
-    at(u64, v12) = v27;
-    at(u64, v12 + 8) = v29;
-    memset(v13, 0, 348u);
-    u32 v56 = (u32)v27;
-    u32 v58 = (u32)(v27 >> 32u);
-    u32 v61 = bswap32((v56 * 12u) + 16u);
-    u32 v62 = bswap32(v56);
-    v64 = 0;
-v63:;
-    u64 v69 = at(u64, (u8 *)table_faed1f12 + (v64 << 3));
-    u8_u64 v70 = font_write_size_table_length_895b(v1, v12, v69);
-    u8 v71 = v70._0;
-    if (!(v71 == 1)) { v427 = 0; v428 = 0; goto v66; }
-    u32 v75 = (u32)v70._1;
-    memset(v11, 0, 24u);
-    switch (v69) {
-    case 1: goto v77;
-    case 5: goto v78;
-    case 6: goto v79;
-    case 9: goto v80;
-    default: goto v76;
+    _Alignas(4) u8 v3[64], v4[20], v5[32], v7[4], v8[4], v9[4], v10[4], v14[348], v16[348], v17[344];
+    u8 v6[12], *v535, *v540, *v548, *v113, v124, *v125, *v161, *v200, *v205, *v213, *v289, *v294, *v302, *v363, *v374, *v412, *v417, *v425, *v651, *v725;
+    _Alignas(8) u8 v11[56], v12[24], v13[16], v18[24], v19[344], v21[344];
+    _Alignas(2) u8 v15[6], v20[6], v22[6];
+    u64 v90, v522, v536, v542, v547, v114, v126, v147, v163, v187, v201, v207, v212, v230, v276, v290, v296, v301, v312, v333, v364, v376, v399, v413, v419, v424, v444, v485, v567, v617, v653, v694, v743, v744, v745, v748, v749;
+    u32x4 v524, v149, v189, v278, v401;
+    u32 v534, v538, v549, v159, v199, v203, v214, v245, v288, v292, v303, v372, v411, v415, v426, v459, v462, v553, v554, v555, v649, v689, v692, v732, v733, v747;
+    u16 v240, v248, v454, v464, v615, v637, v638, v639, v746;
+    u16x8 v569;
+    memset(v19, 0, 344u);
+    memset(v20, 0, 6);
+    memset(v21, 0, 344u);
+    memset(v22, 0, 6);
+    memset(v18, 0, 24u);
+    font_write_size_file_size_092d(v18, v1);
+    u64 v24 = at(u64, v18 + 16);
+    if (!(v24 > 134217728u)) goto v27;
+    v743 = 1; v744 = 0; v745 = 0; v746 = 0; v747 = 0; v748 = v24; v749 = 0; goto v742;
+v27:;
+    u64 v28 = at(u64, v18);
+    u64 v30 = at(u64, v18 + 8);
+    memset(v15, 0, 6);
+    memset(v16, 0, 348u);
+    memset(v17, 0, 344u);
+    at(u64, v13) = v28;
+    at(u64, v13 + 8) = v30;
+    memset(v14, 0, 348u);
+    u32 v72 = (u32)v28;
+    u32 v74 = (u32)(v28 >> 32u);
+    u32 v75 = v72 * 12u;
+    u32 v77 = bswap32(v75 + 16u);
+    u32 v78 = bswap32(v72);
+    u32 v80 = bswap32(v75 + 44u);
+    u8 v81 = (u8)v77;
+    u8 v83 = (u8)(v77 >> 8);
+    u8 v85 = (u8)(v77 >> 16u);
+    u8 v87 = (u8)(v77 >> 24u);
+    v90 = 0;
+v89:;
+    u64 v95 = at(u64, (u8 *)table_faed1f12 + (v90 << 3));
+    u8_u64 v96 = font_write_size_table_length_895b(v1, v13, v95);
+    u8 v97 = v96._0;
+    if (!(v97 == 1)) { v554 = 0; v555 = 0; goto v92; }
+    u32 v101 = (u32)v96._1;
+    memset(v12, 0, 24u);
+    switch (v95) {
+    case 1: goto v103;
+    case 5: goto v104;
+    case 6: goto v105;
+    case 9: goto v106;
+    default: goto v102;
     }
-v76:;
-    font_join_union_UnionSource_copied(v11, v1, v69);
-    if (!(at(u8, v11) == 1)) { v426 = 0; goto v93; }
-    u8 *v378 = at(ptr, v11 + 8);
-    u64 v379 = at(u64, v11 + 16);
-    if (!(v379 > 3)) { v420 = v379; v421 = v378; v422 = 0; goto v382; }
-    u64 v383 = v379 - 4;
-    u64 v385 = (v383 >> 2) + 1;
-    if (v383 < 12u) { v407 = 0; v408 = v378; v409 = v379; goto v387; }
-    u64 v389 = v385 & 0x7ffffffffffffffcu;
-    u64 v390 = v389 << 2;
-    u64 v393 = v379 - (v389 << 2);
-    v395 = 0; v397 = (u32x4){0};
-v394:;
-    u32x4 v398 = bswap_u32x4(at(u32x4_1, v378 + (i64)(v395 << 2))) + v397;
-    u64 v396 = v395 + 4;
-    if (!(v396 == v389)) { v395 = v396; v397 = v398; goto v394; }
-    u32 v405 = sum_u32x4(v398);
-    if (v385 == v389) { v420 = v393; v421 = v378 + (i64)v390; v422 = v405; goto v382; }
-    v407 = v405; v408 = v378 + (i64)v390; v409 = v393;
-v387:;
-    v411 = v407; v413 = v408; v415 = v409;
-v410:;
-    u32 v412 = bswap32(at(u32_1, v413)) + v411;
-    u64 v416 = v415 - 4;
-    if (v416 > 3) { v411 = v412; v413 = v413 + 4; v415 = v416; goto v410; }
-    v420 = v416; v421 = v413 + 4; v422 = v412;
-v382:;
-    at(u32, v7) = 0;
-    memcpy_any(v7, v421, v420);
-    v426 = bswap32(at(u32, v7)) + v422; goto v93;
-v77:;
-    at(u64, v10) = 0x400000002000000u;
-    at(u8, v10 + 8) = 0;
-    at(u8, v10 + 9) = 0;
-    at(u8, v10 + 10) = 0;
-    at(u8, v10 + 11) = 20u;
-    at(u8, v10 + 12) = 0;
-    at(u8, v10 + 13) = 3;
-    at(u8, v10 + 14) = 0;
-    at(u8, v10 + 15) = 10u;
-    at(u8, v10 + 16) = 0;
-    at(u8, v10 + 17) = 0;
-    at(u8, v10 + 18) = 0;
-    at(u8, v10 + 19) = 20u;
-    at(u8, v10 + 20) = 0;
-    at(u8, v10 + 21) = 12u;
-    at(u8, v10 + 22) = 0;
-    at(u8, v10 + 23) = 0;
-    at(u32, v10 + 24) = v61;
-    at(u32, v10 + 28) = 0;
-    at(u32, v10 + 32) = v62;
-    at(u32, v10 + 36) = 0;
-    at(u64, v10 + 40) = 36u;
-    v82 = 0; v84 = v10; v86 = 36u;
-v81:;
-    u32 v83 = bswap32(at(u32_1, v84)) + v82;
-    u64 v87 = v86 - 4;
-    if (!(v87 == 0)) { v82 = v83; v84 = v84 + 4; v86 = v87; goto v81; }
-    v426 = v83 + v58; goto v93;
-v78:;
-    u16 v96 = at(u16, at(ptr, v1 + 8) + 64);
-    if (v96 == 0) { v113 = 0; goto v98; }
-    u8 *v100 = at(ptr, v1 + 608);
-    u64 v101 = (u64)v96;
-    v103 = 0;
 v102:;
-    if (!(at(u8, v100 + (i64)(v103 * 24u)) & 1)) goto v105;
-    v113 = (u16)v103;
-v98:;
-    if (!(v113 < v96)) { v426 = 0; goto v93; }
-    u8 *v116 = at(ptr, v1 + 608);
-    v118 = 0; v121 = v113;
+    font_join_union_UnionSource_copied(v12, v1, v95);
+    if (!(at(u8, v12) == 1)) { v553 = 0; goto v220; }
+    u8 *v505 = at(ptr, v12 + 8);
+    u64 v506 = at(u64, v12 + 16);
+    if (!(v506 > 3)) { v547 = v506; v548 = v505; v549 = 0; goto v509; }
+    u64 v510 = v506 - 4;
+    u64 v512 = (v510 >> 2) + 1;
+    if (v510 < 12u) { v534 = 0; v535 = v505; v536 = v506; goto v514; }
+    u64 v516 = v512 & 0x7ffffffffffffffcu;
+    u64 v517 = v516 << 2;
+    u64 v520 = v506 - (v516 << 2);
+    v522 = 0; v524 = (u32x4){0};
+v521:;
+    u32x4 v525 = bswap_u32x4(at(u32x4_1, v505 + (i64)(v522 << 2))) + v524;
+    u64 v523 = v522 + 4;
+    if (!(v523 == v516)) { v522 = v523; v524 = v525; goto v521; }
+    u32 v532 = sum_u32x4(v525);
+    if (v512 == v516) { v547 = v520; v548 = v505 + (i64)v517; v549 = v532; goto v509; }
+    v534 = v532; v535 = v505 + (i64)v517; v536 = v520;
+v514:;
+    v538 = v534; v540 = v535; v542 = v536;
+v537:;
+    u32 v539 = bswap32(at(u32_1, v540)) + v538;
+    u64 v543 = v542 - 4;
+    if (v543 > 3) { v538 = v539; v540 = v540 + 4; v542 = v543; goto v537; }
+    v547 = v543; v548 = v540 + 4; v549 = v539;
+v509:;
+    at(u32, v7) = 0;
+    memcpy_any(v7, v548, v547);
+    v553 = bswap32(at(u32, v7)) + v549; goto v220;
+v103:;
+    u8 v107 = at(u8, v1 + 312);
+    if (!(v107 == 1)) { v113 = (u8 *)0; v114 = 0; goto v110; }
+    v113 = at(ptr, v1 + 320); v114 = at(u64, v1 + 328);
+v110:;
+    if (at(u8, v1) == 0) { v124 = v107; v125 = v113; v126 = v114; goto v117; }
+    u8 v119 = at(u8, v1 + 872);
+    if (!(v119 == 1)) { v124 = v119; v125 = (u8 *)0; v126 = 0; goto v117; }
+    v124 = 1; v125 = at(ptr, v1 + 880); v126 = at(u64, v1 + 888);
 v117:;
-    u64 v124 = ((u64)v121) * 24u;
-    if (!(at(u8, v116 + (i64)v124) == 1)) { v174 = 0; v175 = (u8 *)table_d0e67785; v176 = 0; goto v130; }
-    u64 v132 = at(u64_1, v116 + (i64)v124 + 16);
-    u8 *v134 = at(ptr_1, v116 + (i64)v124 + 8);
-    if (!(v132 > 3)) { v174 = v132; v175 = v134; v176 = 0; goto v130; }
-    u64 v137 = v132 - 4;
-    u64 v139 = (v137 >> 2) + 1;
-    if (v137 < 12u) { v161 = 0; v162 = v134; v163 = v132; goto v141; }
-    u64 v143 = v139 & 0x7ffffffffffffffcu;
-    u64 v144 = v143 << 2;
-    u64 v147 = v132 - (v143 << 2);
-    v149 = 0; v151 = (u32x4){0};
-v148:;
-    u32x4 v152 = bswap_u32x4(at(u32x4_1, v134 + (i64)(v149 << 2))) + v151;
-    u64 v150 = v149 + 4;
-    if (!(v150 == v143)) { v149 = v150; v151 = v152; goto v148; }
-    u32 v159 = sum_u32x4(v152);
-    if (v139 == v143) { v174 = v147; v175 = v134 + (i64)v144; v176 = v159; goto v130; }
-    v161 = v159; v162 = v134 + (i64)v144; v163 = v147;
-v141:;
-    v165 = v161; v167 = v162; v169 = v163;
-v164:;
-    u32 v166 = bswap32(at(u32_1, v167)) + v165;
-    u64 v170 = v169 - 4;
-    if (v170 > 3) { v165 = v166; v167 = v167 + 4; v169 = v170; goto v164; }
-    v174 = v170; v175 = v167 + 4; v176 = v166;
-v130:;
-    at(u32, v9) = 0;
-    memcpy_any(v9, v175, v174);
-    u32 v119 = (v176 + v118) + bswap32(at(u32, v9));
-    u16 v180 = (u16)(v121 + 1);
-    if (!(v180 < v96)) { v426 = v119; goto v93; }
-    v185 = (u64)v180;
-v184:;
-    if (!(at(u8, v116 + (i64)(v185 * 24u)) & 1)) goto v187;
-    u16 v122 = (u16)v185;
-    if (v96 > v122) { v118 = v119; v121 = v122; goto v117; }
-    v426 = v119; goto v93;
-v187:;
-    u64 v186 = v185 + 1;
-    if (v96 == ((u16)v186)) { v426 = v119; goto v93; }
-    v185 = v186; goto v184;
-v105:;
-    u64 v104 = v103 + 1;
-    if (v104 == v101) { v426 = 0; goto v93; }
-    v103 = v104; goto v102;
-v79:;
-    u8 *v196 = at(ptr_1, at(ptr, v1 + 8));
-    u16 v198 = at(u16_1, v196 + 4);
-    u64 v200 = (u64)bswap16(v198);
-    if (v198 == 0) { v236 = (u8 *)table_d0e67785; v237 = 0xffffffffffffffccu; goto v202; }
-    v206 = 0;
-v203:;
-    u64 v208 = v206 << 4;
-    if (!((((at(u8, v196 + (i64)v208 + 12) == 104u) & (at(u8, v196 + (i64)v208 + 13) == 101u)) & (at(u8, v196 + (i64)v208 + 14) == 97u)) & (at(u8, v196 + (i64)v208 + 15) == 100u))) goto v204;
-    v236 = v196 + (i64)((u64)bswap32(at(u32_1, v196 + (i64)v208 + 20))); v237 = ((u64)bswap32(at(u32_1, v196 + (i64)v208 + 24))) - 52u; goto v202;
-v204:;
-    u64 v205 = v206 + 1;
-    if (v205 == v200) { v236 = (u8 *)table_d0e67785; v237 = 0xffffffffffffffccu; } else { v206 = v205; goto v203; }
+    flag v127 = v124 == 1;
+    u64 v128 = v127 ? v126 : 0;
+    flag v129 = v128 == 0;
+    u64 v144 = v129 ? 36u : 44u;
+    at(u8, v11) = 0;
+    at(u8, v11 + 1) = 0;
+    at(u8, v11 + 2) = 0;
+    at(u8, v11 + 3) = v129 ? 2 : 3;
+    at(u8, v11 + 4) = 0;
+    at(u8, v11 + 5) = 0;
+    at(u8, v11 + 6) = 0;
+    at(u8, v11 + 7) = 4;
+    at(u8, v11 + 8) = 0;
+    at(u8, v11 + 9) = 0;
+    at(u8, v11 + 10) = 0;
+    at(u8, v11 + 11) = v129 ? 20u : 28u;
+    at(u8, v11 + 12) = 0;
+    at(u8, v11 + 13) = v129 ? 3 : 0;
+    at(u8, v11 + 14) = 0;
+    at(u8, v11 + 15) = v129 ? 10u : 5;
+    at(u32, v11 + 16) = v129 ? 335544320u : v80;
+    at(u8, v11 + 20) = 0;
+    at(u8, v11 + 21) = v129 ? 12u : 3;
+    at(u8, v11 + 22) = 0;
+    at(u8, v11 + 23) = v129 ? 0 : 10u;
+    at(u8, v11 + 24) = v129 ? v81 : 0;
+    at(u8, v11 + 25) = v129 ? v83 : 0;
+    at(u8, v11 + 26) = v129 ? v85 : 0;
+    at(u8, v11 + 27) = v129 ? v87 : 28u;
+    at(u32, v11 + 28) = v129 ? 0 : 3072u;
+    at(u32, v11 + 32) = v129 ? v78 : v77;
+    at(u32, v11 + 36) = 0;
+    at(u32, v11 + 40) = v129 ? 0 : v78;
+    at(u32, v11 + 44) = 0;
+    at(u64, v11 + 48) = v144;
+    u64 v145 = v144 - 32u;
+    v147 = 0; v149 = (u32x4){0};
+v146:;
+    u32x4 v150 = bswap_u32x4(at(u32x4_8, v11 + (i64)(v147 << 2))) + v149;
+    u64 v148 = v147 + 4;
+    if (!(v148 == 8)) { v147 = v148; v149 = v150; goto v146; }
+    v159 = sum_u32x4(v150); v161 = v11 + 32; v163 = v145;
+v158:;
+    u32 v160 = bswap32(at(u32_1, v161)) + v159;
+    u64 v164 = v163 - 4;
+    if (!(v164 == 0)) { v159 = v160; v161 = v161 + 4; v163 = v164; goto v158; }
+    u8 *v169 = v127 ? v125 : (u8 *)table_55ba7287;
+    if (!(v128 > 3)) { v212 = v128; v213 = v169; v214 = 0; goto v172; }
+    u64 v175 = umax64((u64)3 - v126, 0xfffffffffffffffcu) + v126;
+    u64 v177 = (v175 >> 2) + 1;
+    if (v175 < 12u) { v199 = 0; v200 = v169; v201 = v126; goto v179; }
+    u64 v181 = v177 & 0x7ffffffffffffffcu;
+    u64 v182 = v181 << 2;
+    u64 v185 = v126 - (v181 << 2);
+    v187 = 0; v189 = (u32x4){0};
+v186:;
+    u32x4 v190 = bswap_u32x4(at(u32x4_1, v169 + (i64)(v187 << 2))) + v189;
+    u64 v188 = v187 + 4;
+    if (!(v188 == v181)) { v187 = v188; v189 = v190; goto v186; }
+    u32 v197 = sum_u32x4(v190);
+    if (v177 == v181) { v212 = v185; v213 = v169 + (i64)v182; v214 = v197; goto v172; }
+    v199 = v197; v200 = v169 + (i64)v182; v201 = v185;
+v179:;
+    v203 = v199; v205 = v200; v207 = v201;
 v202:;
-    u16 v239 = at(u16_1, v236 + 48);
-    u32 v242 = sum_u32x2(bswap_u32x2(at(u32x2_1, v236)));
-    v245 = 0; v247 = v236 + 12; v249 = 36u;
+    u32 v204 = bswap32(at(u32_1, v205)) + v203;
+    u64 v208 = v207 - 4;
+    if (v208 > 3) { v203 = v204; v205 = v205 + 4; v207 = v208; goto v202; }
+    v212 = v208; v213 = v205 + 4; v214 = v204;
+v172:;
+    at(u32, v10) = 0;
+    memcpy_any(v10, v213, v212);
+    v553 = ((v160 + v74) + v214) + bswap32(at(u32, v10)); goto v220;
+v104:;
+    u16 v223 = at(u16, at(ptr, v1 + 8) + 64);
+    if (v223 == 0) { v240 = 0; goto v225; }
+    u8 *v227 = at(ptr, v1 + 712);
+    u64 v228 = (u64)v223;
+    v230 = 0;
+v229:;
+    if (!(at(u8, v227 + (i64)(v230 * 24u)) & 1)) goto v232;
+    v240 = (u16)v230;
+v225:;
+    if (!(v240 < v223)) { v553 = 0; goto v220; }
+    u8 *v243 = at(ptr, v1 + 712);
+    v245 = 0; v248 = v240;
 v244:;
-    u32 v246 = bswap32(at(u32_1, v247)) + v245;
-    u64 v250 = v249 - 4;
-    if (!(v250 == 0)) { v245 = v246; v247 = v247 + 4; v249 = v250; goto v244; }
-    u32 v255 = (u32)v239;
-    if (!(v237 > 3)) { v297 = v237; v298 = v236 + 52; v299 = 0; goto v259; }
-    u64 v260 = v237 - 4;
-    u64 v262 = (v260 >> 2) + 1;
-    if (v260 < 12u) { v284 = 0; v285 = v236 + 52; v286 = v237; goto v264; }
-    u64 v266 = v262 & 0x7ffffffffffffffcu;
-    u64 v267 = v266 << 2;
-    u64 v270 = v237 - (v266 << 2);
-    v272 = 0; v274 = (u32x4){0};
-v271:;
-    u32x4 v275 = bswap_u32x4(at(u32x4_1, (v236 + 52) + (i64)(v272 << 2))) + v274;
-    u64 v273 = v272 + 4;
-    if (!(v273 == v266)) { v272 = v273; v274 = v275; goto v271; }
-    u32 v282 = sum_u32x4(v275);
-    if (v262 == v266) { v297 = v270; v298 = (v236 + 52) + (i64)v267; v299 = v282; goto v259; }
-    v284 = v282; v285 = (v236 + 52) + (i64)v267; v286 = v270;
-v264:;
-    v288 = v284; v290 = v285; v292 = v286;
-v287:;
-    u32 v289 = bswap32(at(u32_1, v290)) + v288;
-    u64 v293 = v292 - 4;
-    if (v293 > 3) { v288 = v289; v290 = v290 + 4; v292 = v293; goto v287; }
-    v297 = v293; v298 = v290 + 4; v299 = v289;
-v259:;
-    at(u32, v8) = 0;
-    memcpy_any(v8, v298, v297);
-    v426 = (((v242 + bswap32(v255 | 16777216u)) + v246) + v299) + bswap32(at(u32, v8)); goto v93;
-v80:;
-    u16 v310 = at(u16, at(ptr, v1 + 8) + 64);
-    if (v310 == 0) { v327 = 0; goto v312; }
-    u8 *v314 = at(ptr, v1 + 608);
-    u64 v315 = (u64)v310;
-    v317 = 0;
-v316:;
-    if (!(at(u8, v314 + (i64)(v317 * 24u)) & 1)) goto v319;
-    v327 = (u16)v317;
-v312:;
-    if (!(v327 < v310)) { v426 = 0; goto v93; }
-    u8 *v330 = at(ptr, v1 + 608);
-    v332 = 0; v335 = 0; v337 = v327;
+    u64 v251 = ((u64)v248) * 24u;
+    if (!(at(u8, v243 + (i64)v251) == 1)) { v301 = 0; v302 = (u8 *)table_55ba7287; v303 = 0; goto v257; }
+    u64 v259 = at(u64_1, v243 + (i64)v251 + 16);
+    u8 *v261 = at(ptr_1, v243 + (i64)v251 + 8);
+    if (!(v259 > 3)) { v301 = v259; v302 = v261; v303 = 0; goto v257; }
+    u64 v264 = v259 - 4;
+    u64 v266 = (v264 >> 2) + 1;
+    if (v264 < 12u) { v288 = 0; v289 = v261; v290 = v259; goto v268; }
+    u64 v270 = v266 & 0x7ffffffffffffffcu;
+    u64 v271 = v270 << 2;
+    u64 v274 = v259 - (v270 << 2);
+    v276 = 0; v278 = (u32x4){0};
+v275:;
+    u32x4 v279 = bswap_u32x4(at(u32x4_1, v261 + (i64)(v276 << 2))) + v278;
+    u64 v277 = v276 + 4;
+    if (!(v277 == v270)) { v276 = v277; v278 = v279; goto v275; }
+    u32 v286 = sum_u32x4(v279);
+    if (v266 == v270) { v301 = v274; v302 = v261 + (i64)v271; v303 = v286; goto v257; }
+    v288 = v286; v289 = v261 + (i64)v271; v290 = v274;
+v268:;
+    v292 = v288; v294 = v289; v296 = v290;
+v291:;
+    u32 v293 = bswap32(at(u32_1, v294)) + v292;
+    u64 v297 = v296 - 4;
+    if (v297 > 3) { v292 = v293; v294 = v294 + 4; v296 = v297; goto v291; }
+    v301 = v297; v302 = v294 + 4; v303 = v293;
+v257:;
+    at(u32, v9) = 0;
+    memcpy_any(v9, v302, v301);
+    u32 v246 = (v303 + v245) + bswap32(at(u32, v9));
+    u16 v307 = (u16)(v248 + 1);
+    if (!(v307 < v223)) { v553 = v246; goto v220; }
+    v312 = (u64)v307;
+v311:;
+    if (!(at(u8, v243 + (i64)(v312 * 24u)) & 1)) goto v314;
+    u16 v249 = (u16)v312;
+    if (v223 > v249) { v245 = v246; v248 = v249; goto v244; }
+    v553 = v246; goto v220;
+v314:;
+    u64 v313 = v312 + 1;
+    if (v223 == ((u16)v313)) { v553 = v246; goto v220; }
+    v312 = v313; goto v311;
+v232:;
+    u64 v231 = v230 + 1;
+    if (v231 == v228) { v553 = 0; goto v220; }
+    v230 = v231; goto v229;
+v105:;
+    u8 *v323 = at(ptr_1, at(ptr, v1 + 8));
+    u16 v325 = at(u16_1, v323 + 4);
+    u64 v327 = (u64)bswap16(v325);
+    if (v325 == 0) { v363 = (u8 *)table_55ba7287; v364 = 0xffffffffffffffccu; goto v329; }
+    v333 = 0;
+v330:;
+    u64 v335 = v333 << 4;
+    if (!((((at(u8, v323 + (i64)v335 + 12) == 104u) & (at(u8, v323 + (i64)v335 + 13) == 101u)) & (at(u8, v323 + (i64)v335 + 14) == 97u)) & (at(u8, v323 + (i64)v335 + 15) == 100u))) goto v331;
+    v363 = v323 + (i64)((u64)bswap32(at(u32_1, v323 + (i64)v335 + 20))); v364 = ((u64)bswap32(at(u32_1, v323 + (i64)v335 + 24))) - 52u; goto v329;
 v331:;
-    u64 v340 = ((u64)v337) * 24u;
-    u64 v347 = (at(u8, v330 + (i64)v340) == 1) ? at(u64_1, v330 + (i64)v340 + 16) : 0;
-    u32 v333 = v332 + ((u32)((((u64)0 - v347) & 3) + v347));
-    u16 v352 = (u16)(v337 + 1);
-    if (!(v352 < v310)) goto v355;
-    v358 = (u64)v352;
-v357:;
-    if (!(at(u8, v330 + (i64)(v358 * 24u)) & 1)) goto v360;
-    u16 v338 = (u16)v358;
-    u32 v336 = (v333 * ((u32)((u16)(v338 - v337)))) + v335;
-    if (v310 > v338) { v332 = v333; v335 = v336; v337 = v338; goto v331; }
-    v426 = v336; goto v93;
-v360:;
-    u64 v359 = v358 + 1;
-    if (!(v310 == ((u16)v359))) { v358 = v359; goto v357; }
-v355:;
-    v426 = (v333 * ((u32)((u16)(v310 - v337)))) + v335; goto v93;
-v319:;
-    u64 v318 = v317 + 1;
-    if (v318 == v315) v426 = 0; else { v317 = v318; goto v316; }
-v93:;
-    v427 = v75; v428 = v426;
-v66:;
-    u64 v429 = v64 * 12u;
-    at(u8, v13 + v429) = v71;
-    memset(v13 + v429 + 1, 0, 3);
-    at(u32, v13 + v429 + 4) = v427;
-    at(u32, v13 + v429 + 8) = v428;
-    u64 v65 = v64 + 1;
-    if (!(v65 == 29u)) { v64 = v65; goto v63; }
-    u32 v436 = at(u32, v13);
-    memcpy(v16, v13 + 4, 344u);
-    at(u32, v15) = v436;
-    memcpy(v15 + 4, v16, 344u);
-    v440 = 0; v442 = (u16x8){0};
+    u64 v332 = v333 + 1;
+    if (v332 == v327) { v363 = (u8 *)table_55ba7287; v364 = 0xffffffffffffffccu; } else { v333 = v332; goto v330; }
+v329:;
+    u16 v366 = at(u16_1, v363 + 48);
+    u32 v369 = sum_u32x2(bswap_u32x2(at(u32x2_1, v363)));
+    v372 = 0; v374 = v363 + 12; v376 = 36u;
+v371:;
+    u32 v373 = bswap32(at(u32_1, v374)) + v372;
+    u64 v377 = v376 - 4;
+    if (!(v377 == 0)) { v372 = v373; v374 = v374 + 4; v376 = v377; goto v371; }
+    u32 v382 = (u32)v366;
+    if (!(v364 > 3)) { v424 = v364; v425 = v363 + 52; v426 = 0; goto v386; }
+    u64 v387 = v364 - 4;
+    u64 v389 = (v387 >> 2) + 1;
+    if (v387 < 12u) { v411 = 0; v412 = v363 + 52; v413 = v364; goto v391; }
+    u64 v393 = v389 & 0x7ffffffffffffffcu;
+    u64 v394 = v393 << 2;
+    u64 v397 = v364 - (v393 << 2);
+    v399 = 0; v401 = (u32x4){0};
+v398:;
+    u32x4 v402 = bswap_u32x4(at(u32x4_1, (v363 + 52) + (i64)(v399 << 2))) + v401;
+    u64 v400 = v399 + 4;
+    if (!(v400 == v393)) { v399 = v400; v401 = v402; goto v398; }
+    u32 v409 = sum_u32x4(v402);
+    if (v389 == v393) { v424 = v397; v425 = (v363 + 52) + (i64)v394; v426 = v409; goto v386; }
+    v411 = v409; v412 = (v363 + 52) + (i64)v394; v413 = v397;
+v391:;
+    v415 = v411; v417 = v412; v419 = v413;
+v414:;
+    u32 v416 = bswap32(at(u32_1, v417)) + v415;
+    u64 v420 = v419 - 4;
+    if (v420 > 3) { v415 = v416; v417 = v417 + 4; v419 = v420; goto v414; }
+    v424 = v420; v425 = v417 + 4; v426 = v416;
+v386:;
+    at(u32, v8) = 0;
+    memcpy_any(v8, v425, v424);
+    v553 = (((v369 + bswap32(v382 | 16777216u)) + v373) + v426) + bswap32(at(u32, v8)); goto v220;
+v106:;
+    u16 v437 = at(u16, at(ptr, v1 + 8) + 64);
+    if (v437 == 0) { v454 = 0; goto v439; }
+    u8 *v441 = at(ptr, v1 + 712);
+    u64 v442 = (u64)v437;
+    v444 = 0;
+v443:;
+    if (!(at(u8, v441 + (i64)(v444 * 24u)) & 1)) goto v446;
+    v454 = (u16)v444;
 v439:;
-    u8 v467 = at(u8, v15 + (v440 * 12u));
-    u8 v468 = at(u8, v15 + (v440 * 12u) + 12);
-    u8 v469 = at(u8, v15 + (v440 * 12u) + 24);
-    u8 v470 = at(u8, v15 + (v440 * 12u) + 36);
-    u8 v471 = at(u8, v15 + (v440 * 12u) + 48);
-    u8 v472 = at(u8, v15 + (v440 * 12u) + 60);
-    u8 v473 = at(u8, v15 + (v440 * 12u) + 72);
-    u8 v474 = at(u8, v15 + (v440 * 12u) + 84);
-    u16x8 v443 = v442 + (__builtin_convertvector((u8x8){v467, v468, v469, v470, v471, v472, v473, v474}, u16x8));
-    u64 v441 = v440 + 8;
-    if (!(v441 == 24u)) { v440 = v441; v442 = v443; goto v439; }
-    v488 = sum_u16x8(v443); v490 = 24u;
+    if (!(v454 < v437)) { v553 = 0; goto v220; }
+    u8 *v457 = at(ptr, v1 + 712);
+    v459 = 0; v462 = 0; v464 = v454;
+v458:;
+    u64 v467 = ((u64)v464) * 24u;
+    u64 v474 = (at(u8, v457 + (i64)v467) == 1) ? at(u64_1, v457 + (i64)v467 + 16) : 0;
+    u32 v460 = v459 + ((u32)((((u64)0 - v474) & 3) + v474));
+    u16 v479 = (u16)(v464 + 1);
+    if (!(v479 < v437)) goto v482;
+    v485 = (u64)v479;
+v484:;
+    if (!(at(u8, v457 + (i64)(v485 * 24u)) & 1)) goto v487;
+    u16 v465 = (u16)v485;
+    u32 v463 = (v460 * ((u32)((u16)(v465 - v464)))) + v462;
+    if (v437 > v465) { v459 = v460; v462 = v463; v464 = v465; goto v458; }
+    v553 = v463; goto v220;
 v487:;
-    u16 v489 = (u16)(v488 + ((u16)at(u8, v15 + (v490 * 12u))));
-    u64 v491 = v490 + 1;
-    if (!(v491 == 29u)) { v488 = v489; v490 = v491; goto v487; }
-    if (!(((u16)(v489 + 65535u)) < 4095u)) { v510 = 0; v511 = 0; v512 = 0; goto v501; }
-    u16 v503 = (u16)(ctlz16(v489) ^ 15u);
-    u16 v504 = (u16)((u32)16u << (v503 & 31));
-    v510 = bswap16((u16)(((u16)((u32)v489 << 4)) - v504)); v511 = (u16)((u32)v503 << 8); v512 = bswap16(v504);
-v501:;
+    u64 v486 = v485 + 1;
+    if (!(v437 == ((u16)v486))) { v485 = v486; goto v484; }
+v482:;
+    v553 = (v460 * ((u32)((u16)(v437 - v464)))) + v462; goto v220;
+v446:;
+    u64 v445 = v444 + 1;
+    if (v445 == v442) v553 = 0; else { v444 = v445; goto v443; }
+v220:;
+    v554 = v101; v555 = v553;
+v92:;
+    u64 v556 = v90 * 12u;
+    at(u8, v14 + v556) = v97;
+    memset(v14 + v556 + 1, 0, 3);
+    at(u32, v14 + v556 + 4) = v554;
+    at(u32, v14 + v556 + 8) = v555;
+    u64 v91 = v90 + 1;
+    if (!(v91 == 29u)) { v90 = v91; goto v89; }
+    u32 v563 = at(u32, v14);
+    memcpy(v17, v14 + 4, 344u);
+    at(u32, v16) = v563;
+    memcpy(v16 + 4, v17, 344u);
+    v567 = 0; v569 = (u16x8){0};
+v566:;
+    u8 v594 = at(u8, v16 + (v567 * 12u));
+    u8 v595 = at(u8, v16 + (v567 * 12u) + 12);
+    u8 v596 = at(u8, v16 + (v567 * 12u) + 24);
+    u8 v597 = at(u8, v16 + (v567 * 12u) + 36);
+    u8 v598 = at(u8, v16 + (v567 * 12u) + 48);
+    u8 v599 = at(u8, v16 + (v567 * 12u) + 60);
+    u8 v600 = at(u8, v16 + (v567 * 12u) + 72);
+    u8 v601 = at(u8, v16 + (v567 * 12u) + 84);
+    u16x8 v570 = v569 + (__builtin_convertvector((u8x8){v594, v595, v596, v597, v598, v599, v600, v601}, u16x8));
+    u64 v568 = v567 + 8;
+    if (!(v568 == 24u)) { v567 = v568; v569 = v570; goto v566; }
+    v615 = sum_u16x8(v570); v617 = 24u;
+v614:;
+    u16 v616 = (u16)(v615 + ((u16)at(u8, v16 + (v617 * 12u))));
+    u64 v618 = v617 + 1;
+    if (!(v618 == 29u)) { v615 = v616; v617 = v618; goto v614; }
+    if (!(((u16)(v616 + 65535u)) < 4095u)) { v637 = 0; v638 = 0; v639 = 0; goto v628; }
+    u16 v630 = (u16)(ctlz16(v616) ^ 15u);
+    u16 v631 = (u16)((u32)16u << (v630 & 31));
+    v637 = bswap16((u16)(((u16)((u32)v616 << 4)) - v631)); v638 = (u16)((u32)v630 << 8); v639 = bswap16(v631);
+v628:;
     at(u8, v6) = 0;
     at(u8, v6 + 1) = 1;
     at(u8, v6 + 2) = 0;
     at(u8, v6 + 3) = 0;
-    at(u16_1, v6 + 4) = bswap16(v489);
-    at(u16_1, v6 + 6) = v512;
-    at(u16_1, v6 + 8) = v511;
-    at(u16_1, v6 + 10) = v510;
-    v522 = 0; v524 = v6; v526 = 12u;
-v521:;
-    u32 v523 = bswap32(at(u32_1, v524)) + v522;
-    u64 v527 = v526 - 4;
-    if (!(v527 == 0)) { v522 = v523; v524 = v524 + 4; v526 = v527; goto v521; }
-    v562 = v523; v565 = (((u32)v489) << 4) | 12u; v567 = 0;
-v561:;
-    u64 v569 = v567 * 12u;
-    u32 v573 = at(u32, v15 + v569 + 4);
-    u32 v575 = at(u32, v15 + v569 + 8);
-    if (!(at(u8, v15 + v569) & 1)) goto v578;
-    u64 v582 = at(u64, (u8 *)table_faed1f12 + (v567 << 3));
-    if (!(v582 < 16u)) goto v585;
+    at(u16_1, v6 + 4) = bswap16(v616);
+    at(u16_1, v6 + 6) = v639;
+    at(u16_1, v6 + 8) = v638;
+    at(u16_1, v6 + 10) = v637;
+    v649 = 0; v651 = v6; v653 = 12u;
+v648:;
+    u32 v650 = bswap32(at(u32_1, v651)) + v649;
+    u64 v654 = v653 - 4;
+    if (!(v654 == 0)) { v649 = v650; v651 = v651 + 4; v653 = v654; goto v648; }
+    v689 = v650; v692 = (((u32)v616) << 4) | 12u; v694 = 0;
+v688:;
+    u64 v696 = v694 * 12u;
+    u32 v700 = at(u32, v16 + v696 + 4);
+    u32 v702 = at(u32, v16 + v696 + 8);
+    if (!(at(u8, v16 + v696) & 1)) goto v705;
+    u64 v709 = at(u64, (u8 *)table_faed1f12 + (v694 << 3));
+    if (!(v709 < 16u)) goto v712;
     at(u32, v3) = 841962319u;
     at(u32, v3 + 4) = 1885433187u;
     at(u32, v3 + 8) = 544503395u;
@@ -9310,16 +12067,16 @@ v561:;
     at(u32, v3 + 52) = 1885696624u;
     at(u32, v3 + 56) = 1634035830u;
     at(u32, v3 + 60) = 2020896118u;
-    v598 = v3 + (v582 << 2); goto v588;
-v585:;
-    if (!(v582 < 21u)) goto v591;
+    v725 = v3 + (v709 << 2); goto v715;
+v712:;
+    if (!(v709 < 21u)) goto v718;
     at(u32, v4) = 1163084098u;
     at(u32, v4 + 4) = 1178944583u;
     at(u32, v4 + 8) = 1397706823u;
     at(u32, v4 + 12) = 1112888135u;
     at(u32, v4 + 16) = 1852990827u;
-    v598 = v4 + (i64)(v582 << 2) - 64; goto v588;
-v591:;
+    v725 = v4 + (i64)(v709 << 2) - 64; goto v715;
+v718:;
     at(u32, v5) = 1380013640u;
     at(u32, v5 + 4) = 1380013645u;
     at(u32, v5 + 8) = 1413567571u;
@@ -9328,32 +12085,32 @@ v591:;
     at(u32, v5 + 20) = 1918989923u;
     at(u32, v5 + 24) = 1918989926u;
     at(u32, v5 + 28) = 1918989927u;
-    v598 = v5 + (i64)(v582 << 2) - 84;
-v588:;
-    u32 v602 = v573 + v565;
-    v605 = v602; v606 = ((v575 << 1) + v602) + bswap32(at(u32_1, v598)); goto v564;
-v578:;
-    v605 = v573 + v565; v606 = 0;
-v564:;
-    u32 v563 = v606 + v562;
-    u64 v568 = v567 + 1;
-    if (!(v568 == 29u)) { v562 = v563; v565 = v605 + (((u32)0 - v573) & 3); v567 = v568; goto v561; }
-    memcpy(v20, v16, 344u);
-    memcpy(v21, v14, 6);
-    memcpy(v18, v20, 344u);
-    memcpy(v19, v21, 6);
-    v616 = 0; v617 = v27; v618 = v29; v619 = v489; v620 = (u32)0xb1b0afbau - v563; v621 = (((u64)v436) << 32u) | 1; v622 = v23;
-v615:;
-    at(u64_1, v0) = v616;
-    at(u64_1, v0 + 8) = v621;
-    memcpy(v0 + 16, v18, 344u);
-    at(u16_1, v0 + 360) = v619;
-    memcpy(v0 + 362, v19, 6);
-    at(u64_1, v0 + 368) = v617;
-    at(u64_1, v0 + 376) = v618;
-    at(u32_1, v0 + 384) = v620;
+    v725 = v5 + (i64)(v709 << 2) - 84;
+v715:;
+    u32 v729 = v700 + v692;
+    v732 = v729; v733 = ((v702 << 1) + v729) + bswap32(at(u32_1, v725)); goto v691;
+v705:;
+    v732 = v700 + v692; v733 = 0;
+v691:;
+    u32 v690 = v733 + v689;
+    u64 v695 = v694 + 1;
+    if (!(v695 == 29u)) { v689 = v690; v692 = v732 + (((u32)0 - v700) & 3); v694 = v695; goto v688; }
+    memcpy(v21, v17, 344u);
+    memcpy(v22, v15, 6);
+    memcpy(v19, v21, 344u);
+    memcpy(v20, v22, 6);
+    v743 = 0; v744 = v28; v745 = v30; v746 = v616; v747 = (u32)0xb1b0afbau - v690; v748 = (((u64)v563) << 32u) | 1; v749 = v24;
+v742:;
+    at(u64_1, v0) = v743;
+    at(u64_1, v0 + 8) = v748;
+    memcpy(v0 + 16, v19, 344u);
+    at(u16_1, v0 + 360) = v746;
+    memcpy(v0 + 362, v20, 6);
+    at(u64_1, v0 + 368) = v744;
+    at(u64_1, v0 + 376) = v745;
+    at(u32_1, v0 + 384) = v747;
     at(u32_1, v0 + 388) = 0;
-    at(u64_1, v0 + 392) = v622;
+    at(u64_1, v0 + 392) = v749;
     return;
 }
 
@@ -9492,4 +12249,95 @@ v66:;
     at(u64, v4 + 136) = at(u64, v4 + 136) + v117;
     if (v65 < 12u) { v64 = v65; goto v63; }
     return 0;
+}
+
+void tables_glyph_variations_GlyphVariationsPartedTable_united(u8 *v0, u8 *v1, u8 *v2, u8 *v3) {
+    _Alignas(8) u8 v5[1], v6[24], v7[32], v8[24];
+    u8 *v40, *v129, *v41, *v167, v169;
+    u64 v43, v45, v91, v92, v125, v126, v130, v139, v170;
+    memset(v7, 0, 32u);
+    if (!(at(u8, v1) == 1)) goto v12;
+    u16 v16 = at(u16, at(ptr, v3 + 8) + 64);
+    u64 v17 = (u64)v16;
+    if (!(v16 == 0)) goto v20;
+    divided_tables_glyph_variations_with_data(v7, v1 + 8, v5, 0);
+    if (!(at(u8, v7) == 0)) goto v162;
+    v167 = v7 + 8; goto v164;
+v20:;
+    u64_u64 v23 = sys_rattle_alloc(v17 << 4, 8);
+    if (!(v23._0 & 1)) goto v27;
+    u8 *v29 = (u8 *)v23._1;
+    at(ptr, v6) = v29;
+    at(u64, v6 + 8) = 0;
+    at(u64, v6 + 16) = v17;
+    v40 = v29; v43 = 0; v45 = 0;
+v39:;
+    if (!(v45 < ((u64)at(u16, at(ptr, v3 + 8) + 64)))) goto v53;
+    if (!(at(u8, at(ptr, v3 + 712) + (i64)(v45 * 24u)) & 1)) goto v53;
+    if (!(at(u8, v1) == 1)) { v129 = (u8 *)table_55ba7287; v130 = 0; goto v63; }
+    u8 *v65 = at(ptr_1, v1 + 24);
+    u8 *v66 = at(ptr_1, v1 + 40);
+    if (!(at(u8, v1 + 72) == 0)) goto v69;
+    u64 v70 = v45 << 1;
+    v91 = ((u64)bswap16(at(u16_1, v65 + (i64)v70))) << 1; v92 = ((u64)bswap16(at(u16_1, v65 + (i64)v70 + 2))) << 1; goto v81;
+v69:;
+    u64 v82 = v45 << 2;
+    v91 = (u64)bswap32(at(u32_1, v65 + (i64)v82)); v92 = (u64)bswap32(at(u32_1, v65 + (i64)v82 + 4));
+v81:;
+    v129 = v66 + (i64)v91; v130 = v92 - v91; goto v63;
+v53:;
+    if (!(at(u8, v2) == 1)) { v129 = (u8 *)table_55ba7287; v130 = 0; goto v63; }
+    u8 *v99 = at(ptr_1, v2 + 24);
+    u8 *v100 = at(ptr_1, v2 + 40);
+    if (!(at(u8, v2 + 72) == 0)) goto v103;
+    u64 v104 = v45 << 1;
+    v125 = ((u64)bswap16(at(u16_1, v99 + (i64)v104))) << 1; v126 = ((u64)bswap16(at(u16_1, v99 + (i64)v104 + 2))) << 1; goto v115;
+v103:;
+    u64 v116 = v45 << 2;
+    v125 = (u64)bswap32(at(u32_1, v99 + (i64)v116)); v126 = (u64)bswap32(at(u32_1, v99 + (i64)v116 + 4));
+v115:;
+    v129 = v100 + (i64)v125; v130 = v126 - v125;
+v63:;
+    if (!(at(u64, v6 + 16) == v43)) { v41 = v40; v139 = v43; goto v42; }
+    if (!std_alloc_vec_Vec_grow_amortized_1c1d(v6, 1)) goto v136;
+    v41 = at(ptr, v6); v139 = at(u64, v6 + 8); goto v42;
+v136:;
+    if (at(u64, v6 + 16) == 0) goto v27;
+    sys_rattle_dealloc(at(ptr, v6));
+    goto v27;
+v42:;
+    u64 v140 = v139 << 4;
+    at(ptr_1, v41 + v140) = v129;
+    at(u64_1, v41 + v140 + 8) = v130;
+    u64 v44 = v139 + 1;
+    at(u64, v6 + 8) = v44;
+    u64 v46 = v45 + 1;
+    if (!(v46 == v17)) { v40 = v41; v43 = v44; v45 = v46; goto v39; }
+    u8 *v150 = at(ptr, v6);
+    flag v152 = at(u64, v6 + 16) == 0;
+    divided_tables_glyph_variations_with_data(v7, v1 + 8, v150, v44);
+    if (!(at(u8, v7) == 0)) goto v157;
+    if (v152) { v167 = v7 + 8; goto v164; }
+    sys_rattle_dealloc(v150);
+    v167 = v7 + 8;
+v164:;
+    memcpy(v8, v167, 24u);
+    v169 = 0; v170 = 1; goto v149;
+v157:;
+    if (v152) goto v162;
+    sys_rattle_dealloc(v150);
+v162:;
+    memset(v8, 0, 24u);
+    v169 = 1; v170 = 0; goto v149;
+v27:;
+    memset(v8, 0, 24u);
+    v169 = 1; v170 = 0; goto v149;
+v12:;
+    memset(v8, 0, 24u);
+    v169 = 0; v170 = 0;
+v149:;
+    at(u8, v0) = v169;
+    at(u64_1, v0 + 8) = v170;
+    memcpy(v0 + 16, v8, 24u);
+    return;
 }

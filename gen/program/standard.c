@@ -87,6 +87,7 @@ static const u8 table_27bde202[4056] = {0,0,0,0,0,0,0,0,0,0,0,0,0,0,0,0,0,0,0,0,
 0,0,0,0,10,0,0,0,0,0,0,0,0,0,0,0,134,0,135,0,0,0,0,0,0,0,0,0,0,0,0,0,0,0,136,0,0,0,0,0,0,0,137,0,0,0,
 0,0,0,0,138,0,0,0,0,0,0,0,0,0,0,0,0,0,0,139,0,0,0,140};
 static const u8 table_52092abc[1] = "}";
+static const _Alignas(4) u8 table_55ba7287[1] = {0};
 static const u8 table_6a0f77db[1] = " ";
 static const _Alignas(8) u8 table_6f649938[4512] = {0,0,0,0,0,0,0,0,0,0,0,0,0,0,0,0,0,0,0,0,0,0,0,0,0,0,0,0,0,0,0,0,0,0,0,0,0,0,0,0,0,0,0,0,0,9,0,0,0,0,0,
 0,0,0,0,0,0,0,0,0,0,0,0,0,0,0,0,0,0,0,0,0,0,0,0,0,0,0,0,0,0,0,0,0,0,0,0,0,0,0,0,0,7,0,0,0,0,0,0,0,0,0,
@@ -571,7 +572,6 @@ static const _Alignas(16) u8 table_aad94805[10688] = {63,59,161,6,41,170,63,17,9
 158,114,70,66,44,56,238,29,44,246,252,209,70,131,106,194,162,7,108,169,27,227,180,146,219,25,158,133,
 24,36,5,115,139,9,199,147,226,27,98,119,82,160,197};
 static const u8 table_c58554cc[1] = "-";
-static const _Alignas(2) u8 table_d0e67785[1] = {0};
 static const _Alignas(8) u8 table_d58c6058[160] = {1,0,0,0,0,0,0,0,10,0,0,0,0,0,0,0,100,0,0,0,0,0,0,0,232,3,0,0,0,0,0,0,16,39,0,0,0,0,0,0,160,134,1,0,0,
 0,0,0,64,66,15,0,0,0,0,0,128,150,152,0,0,0,0,0,0,225,245,5,0,0,0,0,0,202,154,59,0,0,0,0,0,228,11,84,2,
 0,0,0,0,232,118,72,23,0,0,0,0,16,165,212,232,0,0,0,0,160,114,78,24,9,0,0,0,64,122,16,243,90,0,0,0,128,
@@ -627,6 +627,7 @@ static u8_u64 core_fmt_formatter_Formatter_write_before_number_6cd1(u8 *v0, u8 *
 static u8 core_fmt_formatter_Formatter_write_char_n_times_0098(u8 *v0, u32 v1, u64 v2);
 static u8 core_fmt_formatter_Formatter_write_code_point(u8 *v0, u32 v1);
 static u8 core_fmt_formatter_Formatter_write_indented_line_1384(u8 *v0, u8 *v1, u64 v2, flag v3);
+static u8 core_fmt_formatter_Formatter_write_piece_0850(u8 *v0, u8 *v1);
 static u8 core_fmt_num_write_digits_7687(u8 *v0, u64 v1, u64 v2, flag v3, u8 *v4);
 static u8 core_fmt_num_write_digits_b795(u8 *v0, u64 v1, u64 v2, flag v3, u8 *v4);
 static u8 core_fmt_num_write_u128_digits_4894(u8 *v0, u64 v1, u64 v2, u32 v3, flag v4, u8 *v5);
@@ -635,13 +636,13 @@ static flag core_fmt_unicode_from_191f(u32 v0);
 static flag core_fmt_unicode_from_80(u32 v0);
 static flag core_fmt_unicode_from_a83a(u32 v0);
 static flag core_fmt_unicode_from_c3a(u32 v0);
-static NOINLINE void core_slice_edits_mirror_2560(u8 *v0, u8 *v1, u64 v2);
 static NOINLINE void core_slice_edits_mirror_f970(u8 *v0, u8 *v1, u64 v2);
 static NOINLINE void core_slice_edits_mirror_fb0b(u8 *v0, u8 *v1, u64 v2);
 static NOINLINE void core_slice_edits_slice_T_swap_with_slice(u8 *v0, u64 v1, u8 *v2);
 static NOINLINE void core_slice_edits_turn_through_room(u8 *v0, u64 v1, u64 v2, u64 v3);
 static void core_slice_sort_merge_merge(u8 *v0, u64 v1, u64 v2, u8 *v3);
-static u64 core_slice_sort_pivot_median_of_medians(u8 *v0, u64 v1, u64 v2, u64 v3, u64 v4);
+static u64 core_slice_sort_pivot_median_of_medians_152c(u8 *v0, u64 v1, u64 v2, u64 v3, u64 v4);
+static u64 core_slice_sort_pivot_median_of_medians_52d0(u8 *v0, u64 v1, u64 v2, u64 v3, u64 v4);
 static u64 core_slice_sort_pivot_median_of_three(u8 *v0, u64 v1, u64 v2, u64 v3);
 static void core_slice_sort_short_sort(u8 *v0, u64 v1, u8 *v2);
 static void core_slice_sort_short_sort_half(u8 *v0, u64 v1, u8 *v2);
@@ -1400,7 +1401,7 @@ static u8_u64 core_fmt_formatter_Formatter_write_before_number_53cc(u8 *v0, flag
     u8 v15 = at(u8, v0 + 31);
     flag v18 = at(u8, v0 + 29) & 1;
     u64 v21 = (u64)(v1 | v18);
-    u8 *v22 = v1 ? (u8 *)table_c58554cc : (v18 ? (u8 *)table_07e80053 : (u8 *)table_d0e67785);
+    u8 *v22 = v1 ? (u8 *)table_c58554cc : (v18 ? (u8 *)table_07e80053 : (u8 *)table_55ba7287);
     u64 v24 = (at(u8, v0 + 30) & 1) ? v3 : 0;
     u64 v25 = usub_sat64(at(u64_1, v0 + 32), v4);
     u64 v26 = usub_sat64(v25, v21);
@@ -1444,7 +1445,7 @@ static u8_u64 core_fmt_formatter_Formatter_write_before_number_6cd1(u8 *v0, u8 *
     u8 v8 = at(u8, v0 + 28);
     u8 v10 = at(u8, v0 + 29);
     u8 v14 = at(u8, v0 + 31);
-    u8 *v18 = (v10 & 1) ? (u8 *)table_07e80053 : (u8 *)table_d0e67785;
+    u8 *v18 = (v10 & 1) ? (u8 *)table_07e80053 : (u8 *)table_55ba7287;
     u64 v20 = (u64)((u8)(v10 & 1));
     u64 v22 = (at(u8, v0 + 30) & 1) ? v2 : 0;
     u64 v23 = usub_sat64(at(u64_1, v0 + 32), v3);
@@ -1760,7 +1761,7 @@ v89:;
     return 0;
 }
 
-u8 core_fmt_formatter_Formatter_write_piece_0850(u8 *v0, u8 *v1) {
+static u8 core_fmt_formatter_Formatter_write_piece_0850(u8 *v0, u8 *v1) {
     _Alignas(4) u8 v3[4];
     _Alignas(8) u8 v4[24], v5[64];
     u64 v35, v78, v102, v103, v113, v171, v189, v190;
@@ -1829,16 +1830,16 @@ v112:;
     at(u64, v0 + 16) = v102;
     goto v119;
 v90:;
-    if (!(core_fmt_formatter_Formatter_write_indented_04f0(v0, (u8 *)text_x, 2) & 1)) goto v119;
-v99:;
-    memcpy(v0 + 24, v4, 24u);
-    return 1;
+    if (!(core_fmt_formatter_Formatter_write_indented_04f0(v0, (u8 *)text_x, 2) == 0)) goto v99;
 v119:;
     memcpy(v0 + 24, v5 + 40, 24u);
     flag v123 = core_fmt_style_DigitsDisplay_fmt_9398(v5 + 16, v0) & 1;
     memcpy(v0 + 24, v4, 24u);
     if (v123) return 1;
     goto v37;
+v99:;
+    memcpy(v0 + 24, v4, 24u);
+    return 1;
 v85:;
     at(u32, v3) = 0;
     if (!(v79 < 128u)) goto v126;
@@ -2667,7 +2668,7 @@ v24:;
     if ((i8)at(u8, v13 + v29) > (i8)191u) { v35 = v29; v36 = v13; goto v33; }
 v27:;
     u64 v26 = v25 + 1;
-    if (v26 == 4) { v35 = 0; v36 = (u8 *)table_d0e67785; } else { v25 = v26; goto v24; }
+    if (v26 == 4) { v35 = 0; v36 = (u8 *)table_55ba7287; } else { v25 = v26; goto v24; }
 v33:;
     at(ptr, v8) = v36;
     at(u64, v8 + 8) = v35;
@@ -4601,7 +4602,7 @@ v32:;
     v33 = v34; goto v32;
 }
 
-static NOINLINE void core_slice_edits_mirror_2560(u8 *v0, u8 *v1, u64 v2) {
+NOINLINE void core_slice_edits_mirror_2560(u8 *v0, u8 *v1, u64 v2) {
     u64 v14, v31, v33;
     u64 v4 = v2 << 3;
     if (((u64)v0 < (u64)(v1 + (i64)v4)) & ((u64)v1 < (u64)(v0 + (i64)v4))) { v31 = 0; goto v10; }
@@ -5419,7 +5420,28 @@ v370:;
     return;
 }
 
-static u64 core_slice_sort_pivot_median_of_medians(u8 *v0, u64 v1, u64 v2, u64 v3, u64 v4) {
+static u64 core_slice_sort_pivot_median_of_medians_152c(u8 *v0, u64 v1, u64 v2, u64 v3, u64 v4) {
+    if (!(v4 < 8)) goto v8;
+    u64 v17 = at(u64, v0 + (i64)(v1 << 3));
+    u64 v18 = at(u64, v0 + (i64)(v2 << 3));
+    flag v19 = v17 < v18;
+    u64 v22 = at(u64, v0 + (i64)(v3 << 3));
+    return (v19 ^ (v17 < v22)) ? v1 : ((v19 ^ (v18 < v22)) ? v3 : v2);
+v8:;
+    u64 v28 = v4 >> 3;
+    u64 v29 = v28 << 2;
+    u64 v31 = v28 * 7;
+    u64 v33 = core_slice_sort_pivot_median_of_medians_152c(v0, v1, v29 + v1, v31 + v1, v28);
+    u64 v36 = core_slice_sort_pivot_median_of_medians_152c(v0, v2, v29 + v2, v31 + v2, v28);
+    u64 v39 = core_slice_sort_pivot_median_of_medians_152c(v0, v3, v29 + v3, v31 + v3, v28);
+    u64 v44 = at(u64, v0 + (i64)(v33 << 3));
+    u64 v45 = at(u64, v0 + (i64)(v36 << 3));
+    flag v46 = v44 < v45;
+    u64 v49 = at(u64, v0 + (i64)(v39 << 3));
+    return (v46 ^ (v44 < v49)) ? v33 : ((v46 ^ (v45 < v49)) ? v39 : v36);
+}
+
+static u64 core_slice_sort_pivot_median_of_medians_52d0(u8 *v0, u64 v1, u64 v2, u64 v3, u64 v4) {
     if (!(v4 < 8)) goto v8;
     u64 v11 = core_slice_sort_pivot_median_of_three(v0, v1, v2, v3);
     return v11;
@@ -5427,9 +5449,9 @@ v8:;
     u64 v13 = v4 >> 3;
     u64 v14 = v13 << 2;
     u64 v16 = v13 * 7;
-    u64 v18 = core_slice_sort_pivot_median_of_medians(v0, v1, v14 + v1, v16 + v1, v13);
-    u64 v21 = core_slice_sort_pivot_median_of_medians(v0, v2, v14 + v2, v16 + v2, v13);
-    u64 v12 = core_slice_sort_pivot_median_of_three(v0, v18, v21, core_slice_sort_pivot_median_of_medians(v0, v3, v14 + v3, v16 + v3, v13));
+    u64 v18 = core_slice_sort_pivot_median_of_medians_52d0(v0, v1, v14 + v1, v16 + v1, v13);
+    u64 v21 = core_slice_sort_pivot_median_of_medians_52d0(v0, v2, v14 + v2, v16 + v2, v13);
+    u64 v12 = core_slice_sort_pivot_median_of_three(v0, v18, v21, core_slice_sort_pivot_median_of_medians_52d0(v0, v3, v14 + v3, v16 + v3, v13));
     return v12;
 }
 
@@ -6078,7 +6100,7 @@ v26:;
     u64 v33 = core_slice_sort_pivot_median_of_three(v22, 0, v29, v30);
     v36 = v33; goto v34;
 v32:;
-    u64 v35 = core_slice_sort_pivot_median_of_medians(v22, 0, v29, v30, v27);
+    u64 v35 = core_slice_sort_pivot_median_of_medians_52d0(v22, 0, v29, v30, v27);
     v36 = v35;
 v34:;
     if (!(v19 < v21)) goto v39;
@@ -6265,6 +6287,491 @@ v14:;
 v7:;
     core_slice_sort_short_sort(v12, v15, v4);
     return;
+}
+
+void core_slice_sort_unstable_quicksort_6868(u8 *v0, u64 v1, u64 v2, u32 v3) {
+    u64 v9, v12, v24, v28, v29, v57, v58, v59, v60, v66, v76, v77, v105, v106, v107, v108, v139, v217, v229, v238, v250, v252, v265, v274, v282, v162, v171, v183, v185, v198, v207, v215, v285, v287, v615, v630, v641, v643;
+    u32 v14;
+    u64 v5 = v2 - v1;
+    if (v5 > 16u) { v9 = v5; v12 = v1; v14 = v3; } else { v287 = v5; goto v8; }
+v7:;
+    if (!(v14 == 0)) goto v18;
+    u64 v20 = v12 << 3;
+    u64 v22 = v9 >> 1;
+    v24 = v22;
+v23:;
+    u64 v25 = v24 - 1;
+    v28 = v25;
+v27:;
+    u64 v31 = v28 << 1;
+    u64 v32 = v31 | 1;
+    u64 v33 = v31 + 2;
+    if (v33 == v9) { v29 = v32; goto v35; }
+    v29 = (at(u64, (v0 + (i64)v20) + (i64)(v32 << 3)) < at(u64, (v0 + (i64)v20) + (i64)(v33 << 3))) ? v33 : v32;
+v35:;
+    u64 v45 = v28 << 3;
+    u64 v47 = v29 << 3;
+    u64 v49 = at(u64, (v0 + (i64)v20) + (i64)v45);
+    u64 v50 = at(u64, (v0 + (i64)v20) + (i64)v47);
+    if (!(v49 < v50)) goto v26;
+    if (v28 < v29) { v57 = v50; v58 = v49; v59 = v47; v60 = v45; goto v54; }
+    if (v29 < v28) { v57 = v49; v58 = v50; v59 = v45; v60 = v47; } else goto v30;
+v54:;
+    at(u64, (v0 + (i64)v20) + v60) = v57;
+    at(u64, (v0 + (i64)v20) + v59) = v58;
+v30:;
+    if (v29 < v22) { v28 = v29; goto v27; }
+v26:;
+    if (v25 == 0) v66 = v9; else { v24 = v25; goto v23; }
+v65:;
+    u64 v67 = v66 - 1;
+    u64 v69 = v67 << 3;
+    u64 v71 = at(u64, v0 + (i64)v20);
+    at(u64, v0 + (i64)v20) = at(u64, (v0 + (i64)v20) + v69);
+    at(u64, (v0 + (i64)v20) + v69) = v71;
+    u64 v73 = v67 >> 1;
+    if (v73 == 0) goto v68;
+    v76 = 0;
+v75:;
+    u64 v79 = v76 << 1;
+    u64 v80 = v79 | 1;
+    u64 v81 = v79 + 2;
+    if (v81 == v67) { v77 = v80; goto v83; }
+    v77 = (at(u64, (v0 + (i64)v20) + (i64)(v80 << 3)) < at(u64, (v0 + (i64)v20) + (i64)(v81 << 3))) ? v81 : v80;
+v83:;
+    u64 v93 = v76 << 3;
+    u64 v95 = v77 << 3;
+    u64 v97 = at(u64, (v0 + (i64)v20) + (i64)v93);
+    u64 v98 = at(u64, (v0 + (i64)v20) + (i64)v95);
+    if (!(v97 < v98)) goto v68;
+    if (v76 < v77) { v105 = v98; v106 = v97; v107 = v95; v108 = v93; goto v102; }
+    if (v77 < v76) { v105 = v97; v106 = v98; v107 = v93; v108 = v95; } else goto v78;
+v102:;
+    at(u64, (v0 + (i64)v20) + v108) = v105;
+    at(u64, (v0 + (i64)v20) + v107) = v106;
+v78:;
+    if (v77 < v73) { v76 = v77; goto v75; }
+v68:;
+    if (v67 > 1) { v66 = v67; goto v65; }
+    return;
+v18:;
+    u32 v15 = v14 - 1;
+    u64 v113 = v9 >> 3;
+    u64 v116 = (v113 << 2) + v12;
+    u64 v118 = (v113 * 7) + v12;
+    if (!(v9 < 64u)) goto v120;
+    u64 v125 = at(u64, v0 + (i64)(v12 << 3));
+    u64 v126 = at(u64, v0 + (i64)(v116 << 3));
+    flag v127 = v125 < v126;
+    u64 v130 = at(u64, v0 + (i64)(v118 << 3));
+    v139 = (v127 ^ (v125 < v130)) ? v12 : ((v127 ^ (v126 < v130)) ? v118 : v116); goto v137;
+v120:;
+    u64 v138 = core_slice_sort_pivot_median_of_medians_152c(v0, v12, v116, v118, v113);
+    v139 = v138;
+v137:;
+    if (v12 == 0) { v217 = 0; goto v141; }
+    u64 v143 = v12 << 3;
+    if (at(u64, v0 + (i64)v143 - 8) < at(u64, v0 + (i64)(v139 << 3))) v217 = v143; else goto v151;
+v141:;
+    if (v139 == v12) goto v220;
+    u64 v223 = (v139 - v12) << 3;
+    u64 v225 = at(u64, v0 + (i64)v217);
+    at(u64, v0 + (i64)v217) = at(u64, (v0 + (i64)v217) + v223);
+    at(u64, (v0 + (i64)v217) + v223) = v225;
+v220:;
+    u64 v227 = at(u64, v0 + (i64)v217);
+    v229 = 1;
+v228:;
+    if (!(at(u64, (v0 + (i64)v217) + (i64)(v229 << 3)) < v227)) { v238 = v229; goto v236; }
+    u64 v230 = v229 + 1;
+    if (v230 == v9) v238 = v9; else { v229 = v230; goto v228; }
+v236:;
+    u64 v239 = v9 - 1;
+    if (!(v238 < v239)) { v274 = v238; goto v242; }
+    u64 v243 = v238 + 1;
+    u64 v246 = at(u64, (v0 + (i64)v217) + (v243 << 3));
+    if (v243 < v239) { v250 = v238; v252 = v243; } else { v265 = v238; goto v249; }
+v248:;
+    u64 v253 = v252 + 1;
+    u64 v256 = at(u64, (v0 + (i64)v217) + (i64)(v253 << 3));
+    u64 v258 = v250 << 3;
+    at(u64, (v0 + (i64)v217) + (v252 << 3)) = at(u64, (v0 + (i64)v217) + v258);
+    at(u64, (v0 + (i64)v217) + v258) = v256;
+    u64 v251 = v250 + ((u64)(v256 < v227));
+    if (v253 == v239) v265 = v251; else { v250 = v251; v252 = v253; goto v248; }
+v249:;
+    u64 v267 = v265 << 3;
+    at(u64, (v0 + (i64)v217) + (v239 << 3)) = at(u64, (v0 + (i64)v217) + v267);
+    at(u64, (v0 + (i64)v217) + v267) = v246;
+    v274 = v265 + ((u64)(v246 < v227));
+v242:;
+    u64 v275 = v274 - 1;
+    if (v275 == 0) { v282 = 0; goto v277; }
+    u64 v279 = v275 << 3;
+    at(u64, v0 + (i64)v217) = at(u64, (v0 + (i64)v217) + v279);
+    v282 = v279;
+v277:;
+    at(u64, (v0 + (i64)v217) + v282) = v227;
+    core_slice_sort_unstable_quicksort_6868(v0, v12, v275 + v12, v15);
+    v285 = v274; goto v11;
+v151:;
+    if (v139 == v12) goto v153;
+    u64 v156 = (v139 - v12) << 3;
+    u64 v158 = at(u64, v0 + (i64)v143);
+    at(u64, v0 + (i64)v143) = at(u64, (v0 + (i64)v143) + v156);
+    at(u64, (v0 + (i64)v143) + v156) = v158;
+v153:;
+    u64 v160 = at(u64, v0 + (i64)v143);
+    v162 = 1;
+v161:;
+    if (v160 < at(u64, (v0 + (i64)v143) + (i64)(v162 << 3))) { v171 = v162; goto v169; }
+    u64 v163 = v162 + 1;
+    if (v163 == v9) v171 = v9; else { v162 = v163; goto v161; }
+v169:;
+    u64 v172 = v9 - 1;
+    if (!(v171 < v172)) { v207 = v171; goto v175; }
+    u64 v176 = v171 + 1;
+    u64 v179 = at(u64, (v0 + (i64)v143) + (v176 << 3));
+    if (v176 < v172) { v183 = v171; v185 = v176; } else { v198 = v171; goto v182; }
+v181:;
+    u64 v186 = v185 + 1;
+    u64 v189 = at(u64, (v0 + (i64)v143) + (i64)(v186 << 3));
+    u64 v191 = v183 << 3;
+    at(u64, (v0 + (i64)v143) + (v185 << 3)) = at(u64, (v0 + (i64)v143) + v191);
+    at(u64, (v0 + (i64)v143) + v191) = v189;
+    u64 v184 = v183 + ((u64)(v160 >= v189));
+    if (v186 == v172) v198 = v184; else { v183 = v184; v185 = v186; goto v181; }
+v182:;
+    u64 v200 = v198 << 3;
+    at(u64, (v0 + (i64)v143) + (v172 << 3)) = at(u64, (v0 + (i64)v143) + v200);
+    at(u64, (v0 + (i64)v143) + v200) = v179;
+    v207 = v198 + ((u64)(v160 >= v179));
+v175:;
+    u64 v208 = v207 - 1;
+    if (v208 == 0) { v215 = 0; goto v210; }
+    u64 v212 = v208 << 3;
+    at(u64, v0 + (i64)v143) = at(u64, (v0 + (i64)v143) + v212);
+    v215 = v212;
+v210:;
+    at(u64, (v0 + (i64)v143) + v215) = v160;
+    v285 = v207;
+v11:;
+    u64 v13 = v285 + v12;
+    u64 v10 = v2 - v13;
+    if (v10 > 16u) { v9 = v10; v12 = v13; v14 = v15; goto v7; }
+    v287 = v10;
+v8:;
+    if (!(v287 > 1)) return;
+    u64 v294 = usub_sat64(v2, (v287 > 8) ? ((v287 > 12u) ? 16u : 12u) : 8);
+    u64 v295 = v294 << 3;
+    u64 v297 = v2 - v294;
+    if (!(v297 > 15u)) goto v300;
+    u64 v301 = at(u64, v0 + (i64)v295);
+    u64 v303 = at(u64, v0 + (i64)v295 + 104);
+    u64 v304 = umin64(v303, v301);
+    u64 v305 = umax64(v303, v301);
+    u64 v307 = at(u64, v0 + (i64)v295 + 8);
+    u64 v309 = at(u64, v0 + (i64)v295 + 96);
+    u64 v310 = umin64(v309, v307);
+    u64 v311 = umax64(v309, v307);
+    u64 v313 = at(u64, v0 + (i64)v295 + 16);
+    u64 v315 = at(u64, v0 + (i64)v295 + 120);
+    u64 v316 = umin64(v315, v313);
+    u64 v317 = umax64(v315, v313);
+    u64 v319 = at(u64, v0 + (i64)v295 + 24);
+    u64 v321 = at(u64, v0 + (i64)v295 + 112);
+    u64 v322 = umin64(v321, v319);
+    u64 v323 = umax64(v321, v319);
+    u64 v325 = at(u64, v0 + (i64)v295 + 32);
+    u64 v327 = at(u64, v0 + (i64)v295 + 64);
+    u64 v328 = umin64(v327, v325);
+    u64 v329 = umax64(v327, v325);
+    u64 v331 = at(u64, v0 + (i64)v295 + 40);
+    u64 v333 = at(u64, v0 + (i64)v295 + 48);
+    u64 v334 = umin64(v333, v331);
+    u64 v335 = umax64(v333, v331);
+    u64 v337 = at(u64, v0 + (i64)v295 + 56);
+    u64 v339 = at(u64, v0 + (i64)v295 + 88);
+    u64 v340 = umin64(v339, v337);
+    u64 v341 = umax64(v339, v337);
+    u64 v343 = at(u64, v0 + (i64)v295 + 72);
+    u64 v345 = at(u64, v0 + (i64)v295 + 80);
+    u64 v346 = umin64(v345, v343);
+    u64 v347 = umax64(v345, v343);
+    u64 v348 = umin64(v334, v304);
+    u64 v349 = umax64(v334, v304);
+    u64 v350 = umin64(v340, v310);
+    u64 v351 = umax64(v340, v310);
+    u64 v352 = umin64(v346, v316);
+    u64 v353 = umax64(v346, v316);
+    u64 v354 = umin64(v328, v322);
+    u64 v355 = umax64(v328, v322);
+    u64 v356 = umin64(v305, v335);
+    u64 v357 = umax64(v305, v335);
+    u64 v358 = umin64(v323, v329);
+    u64 v359 = umax64(v323, v329);
+    u64 v360 = umin64(v317, v347);
+    u64 v361 = umax64(v317, v347);
+    u64 v362 = umin64(v311, v341);
+    u64 v363 = umax64(v311, v341);
+    u64 v364 = umin64(v350, v348);
+    u64 v365 = umax64(v350, v348);
+    u64 v366 = umin64(v354, v352);
+    u64 v367 = umax64(v354, v352);
+    u64 v368 = umin64(v349, v355);
+    u64 v369 = umax64(v349, v355);
+    u64 v370 = umin64(v358, v356);
+    u64 v371 = umax64(v358, v356);
+    u64 v372 = umin64(v353, v351);
+    u64 v373 = umax64(v353, v351);
+    u64 v374 = umin64(v362, v360);
+    u64 v375 = umax64(v362, v360);
+    u64 v376 = umin64(v357, v363);
+    u64 v377 = umax64(v357, v363);
+    u64 v378 = umin64(v361, v359);
+    u64 v379 = umax64(v361, v359);
+    u64 v381 = umax64(v366, v364);
+    at(u64, v0 + (i64)v295) = umin64(v366, v364);
+    u64 v382 = umin64(v367, v365);
+    u64 v383 = umax64(v367, v365);
+    u64 v384 = umin64(v374, v368);
+    u64 v385 = umax64(v374, v368);
+    u64 v386 = umin64(v375, v369);
+    u64 v387 = umax64(v375, v369);
+    u64 v388 = umin64(v372, v370);
+    u64 v389 = umax64(v372, v370);
+    u64 v390 = umin64(v373, v371);
+    u64 v391 = umax64(v373, v371);
+    u64 v392 = umin64(v378, v376);
+    u64 v393 = umax64(v378, v376);
+    u64 v394 = umin64(v379, v377);
+    at(u64, v0 + (i64)v295 + 120) = umax64(v379, v377);
+    u64 v396 = umin64(v381, v382);
+    u64 v397 = umax64(v381, v382);
+    u64 v398 = umin64(v392, v383);
+    u64 v399 = umax64(v392, v383);
+    u64 v400 = umin64(v388, v384);
+    u64 v401 = umax64(v388, v384);
+    u64 v402 = umin64(v389, v386);
+    u64 v403 = umax64(v389, v386);
+    u64 v404 = umin64(v385, v390);
+    u64 v405 = umax64(v385, v390);
+    u64 v406 = umin64(v387, v391);
+    u64 v407 = umax64(v387, v391);
+    u64 v408 = umin64(v393, v394);
+    u64 v409 = umax64(v393, v394);
+    u64 v411 = umax64(v400, v396);
+    at(u64, v0 + (i64)v295 + 8) = umin64(v400, v396);
+    u64 v412 = umin64(v401, v397);
+    u64 v413 = umax64(v401, v397);
+    u64 v414 = umin64(v404, v402);
+    u64 v415 = umax64(v404, v402);
+    u64 v416 = umin64(v405, v403);
+    u64 v417 = umax64(v405, v403);
+    u64 v418 = umin64(v408, v406);
+    u64 v419 = umax64(v408, v406);
+    u64 v420 = umin64(v409, v407);
+    at(u64, v0 + (i64)v295 + 112) = umax64(v409, v407);
+    u64 v423 = umax64(v411, v412);
+    at(u64, v0 + (i64)v295 + 16) = umin64(v411, v412);
+    u64 v424 = umin64(v413, v398);
+    u64 v425 = umax64(v413, v398);
+    u64 v426 = umin64(v399, v418);
+    u64 v427 = umax64(v399, v418);
+    u64 v428 = umin64(v419, v420);
+    at(u64, v0 + (i64)v295 + 104) = umax64(v419, v420);
+    u64 v430 = umin64(v414, v424);
+    u64 v431 = umax64(v414, v424);
+    u64 v432 = umin64(v415, v425);
+    u64 v433 = umax64(v415, v425);
+    u64 v434 = umin64(v426, v416);
+    u64 v435 = umax64(v426, v416);
+    u64 v436 = umin64(v427, v417);
+    u64 v437 = umax64(v427, v417);
+    at(u64, v0 + (i64)v295 + 24) = umin64(v423, v430);
+    at(u64, v0 + (i64)v295 + 32) = umax64(v423, v430);
+    u64 v441 = umax64(v432, v431);
+    at(u64, v0 + (i64)v295 + 40) = umin64(v432, v431);
+    u64 v442 = umin64(v433, v434);
+    u64 v443 = umax64(v433, v434);
+    u64 v444 = umin64(v436, v435);
+    at(u64, v0 + (i64)v295 + 80) = umax64(v436, v435);
+    at(u64, v0 + (i64)v295 + 88) = umin64(v437, v428);
+    at(u64, v0 + (i64)v295 + 96) = umax64(v437, v428);
+    at(u64, v0 + (i64)v295 + 48) = umin64(v442, v441);
+    at(u64, v0 + (i64)v295 + 56) = umax64(v442, v441);
+    at(u64, v0 + (i64)v295 + 64) = umin64(v444, v443);
+    at(u64, v0 + (i64)v295 + 72) = umax64(v444, v443);
+    goto v452;
+v300:;
+    if (!(v297 > 11u)) goto v455;
+    u64 v456 = at(u64, v0 + (i64)v295);
+    u64 v458 = at(u64, v0 + (i64)v295 + 64);
+    u64 v459 = umin64(v458, v456);
+    u64 v460 = umax64(v458, v456);
+    u64 v462 = at(u64, v0 + (i64)v295 + 8);
+    u64 v464 = at(u64, v0 + (i64)v295 + 56);
+    u64 v465 = umin64(v464, v462);
+    u64 v466 = umax64(v464, v462);
+    u64 v468 = at(u64, v0 + (i64)v295 + 16);
+    u64 v470 = at(u64, v0 + (i64)v295 + 48);
+    u64 v471 = umin64(v470, v468);
+    u64 v472 = umax64(v470, v468);
+    u64 v474 = at(u64, v0 + (i64)v295 + 24);
+    u64 v476 = at(u64, v0 + (i64)v295 + 88);
+    u64 v477 = umin64(v476, v474);
+    u64 v478 = umax64(v476, v474);
+    u64 v480 = at(u64, v0 + (i64)v295 + 32);
+    u64 v482 = at(u64, v0 + (i64)v295 + 80);
+    u64 v483 = umin64(v482, v480);
+    u64 v484 = umax64(v482, v480);
+    u64 v486 = at(u64, v0 + (i64)v295 + 40);
+    u64 v488 = at(u64, v0 + (i64)v295 + 72);
+    u64 v489 = umin64(v488, v486);
+    u64 v490 = umax64(v488, v486);
+    u64 v491 = umin64(v465, v459);
+    u64 v492 = umax64(v465, v459);
+    u64 v493 = umin64(v489, v471);
+    u64 v494 = umax64(v489, v471);
+    u64 v495 = umin64(v483, v477);
+    u64 v496 = umax64(v483, v477);
+    u64 v497 = umin64(v490, v472);
+    u64 v498 = umax64(v490, v472);
+    u64 v499 = umin64(v460, v466);
+    u64 v500 = umax64(v460, v466);
+    u64 v501 = umin64(v478, v484);
+    u64 v502 = umax64(v478, v484);
+    u64 v503 = umin64(v493, v491);
+    u64 v504 = umax64(v493, v491);
+    u64 v505 = umin64(v497, v492);
+    u64 v506 = umax64(v497, v492);
+    u64 v507 = umin64(v501, v494);
+    u64 v508 = umax64(v501, v494);
+    u64 v509 = umin64(v502, v498);
+    u64 v510 = umax64(v502, v498);
+    u64 v512 = umax64(v495, v503);
+    at(u64, v0 + (i64)v295) = umin64(v495, v503);
+    u64 v513 = umin64(v504, v505);
+    u64 v514 = umax64(v504, v505);
+    u64 v515 = umin64(v506, v496);
+    u64 v516 = umax64(v506, v496);
+    u64 v517 = umin64(v499, v507);
+    u64 v518 = umax64(v499, v507);
+    u64 v519 = umin64(v510, v500);
+    at(u64, v0 + (i64)v295 + 88) = umax64(v510, v500);
+    u64 v521 = umin64(v508, v509);
+    u64 v522 = umax64(v508, v509);
+    u64 v523 = umin64(v515, v513);
+    u64 v524 = umax64(v515, v513);
+    u64 v525 = umin64(v517, v512);
+    u64 v526 = umax64(v517, v512);
+    u64 v527 = umin64(v519, v516);
+    u64 v528 = umax64(v519, v516);
+    u64 v529 = umin64(v522, v518);
+    u64 v530 = umax64(v522, v518);
+    u64 v532 = umax64(v525, v523);
+    at(u64, v0 + (i64)v295 + 8) = umin64(v525, v523);
+    u64 v533 = umin64(v526, v514);
+    u64 v534 = umax64(v526, v514);
+    u64 v535 = umin64(v521, v527);
+    u64 v536 = umax64(v521, v527);
+    u64 v537 = umin64(v530, v528);
+    at(u64, v0 + (i64)v295 + 80) = umax64(v530, v528);
+    u64 v540 = umax64(v532, v533);
+    at(u64, v0 + (i64)v295 + 16) = umin64(v532, v533);
+    u64 v541 = umin64(v534, v524);
+    u64 v542 = umax64(v534, v524);
+    u64 v543 = umin64(v529, v535);
+    u64 v544 = umax64(v529, v535);
+    u64 v545 = umin64(v536, v537);
+    at(u64, v0 + (i64)v295 + 72) = umax64(v536, v537);
+    u64 v547 = umin64(v543, v541);
+    u64 v548 = umax64(v543, v541);
+    u64 v549 = umin64(v544, v542);
+    u64 v550 = umax64(v544, v542);
+    at(u64, v0 + (i64)v295 + 24) = umin64(v547, v540);
+    at(u64, v0 + (i64)v295 + 32) = umax64(v547, v540);
+    at(u64, v0 + (i64)v295 + 40) = umin64(v548, v549);
+    at(u64, v0 + (i64)v295 + 48) = umax64(v548, v549);
+    at(u64, v0 + (i64)v295 + 56) = umin64(v545, v550);
+    at(u64, v0 + (i64)v295 + 64) = umax64(v545, v550);
+    goto v452;
+v455:;
+    if (!(v297 > 7)) goto v559;
+    u64 v560 = at(u64, v0 + (i64)v295);
+    u64 v562 = at(u64, v0 + (i64)v295 + 16);
+    u64 v563 = umin64(v562, v560);
+    u64 v564 = umax64(v562, v560);
+    u64 v566 = at(u64, v0 + (i64)v295 + 8);
+    u64 v568 = at(u64, v0 + (i64)v295 + 24);
+    u64 v569 = umin64(v568, v566);
+    u64 v570 = umax64(v568, v566);
+    u64 v572 = at(u64, v0 + (i64)v295 + 32);
+    u64 v574 = at(u64, v0 + (i64)v295 + 48);
+    u64 v575 = umin64(v574, v572);
+    u64 v576 = umax64(v574, v572);
+    u64 v578 = at(u64, v0 + (i64)v295 + 40);
+    u64 v580 = at(u64, v0 + (i64)v295 + 56);
+    u64 v581 = umin64(v580, v578);
+    u64 v582 = umax64(v580, v578);
+    u64 v583 = umin64(v575, v563);
+    u64 v584 = umax64(v575, v563);
+    u64 v585 = umin64(v581, v569);
+    u64 v586 = umax64(v581, v569);
+    u64 v587 = umin64(v576, v564);
+    u64 v588 = umax64(v576, v564);
+    u64 v589 = umin64(v582, v570);
+    u64 v590 = umax64(v582, v570);
+    u64 v592 = umax64(v585, v583);
+    at(u64, v0 + (i64)v295) = umin64(v585, v583);
+    u64 v593 = umin64(v589, v587);
+    u64 v594 = umax64(v589, v587);
+    u64 v595 = umin64(v586, v584);
+    u64 v596 = umax64(v586, v584);
+    u64 v597 = umin64(v590, v588);
+    at(u64, v0 + (i64)v295 + 56) = umax64(v590, v588);
+    u64 v599 = umin64(v595, v593);
+    u64 v600 = umax64(v595, v593);
+    u64 v601 = umin64(v596, v594);
+    u64 v602 = umax64(v596, v594);
+    u64 v603 = umin64(v600, v592);
+    u64 v604 = umax64(v600, v592);
+    u64 v605 = umin64(v597, v601);
+    u64 v606 = umax64(v597, v601);
+    at(u64, v0 + (i64)v295 + 8) = umin64(v599, v603);
+    at(u64, v0 + (i64)v295 + 16) = umax64(v599, v603);
+    at(u64, v0 + (i64)v295 + 24) = umin64(v604, v605);
+    at(u64, v0 + (i64)v295 + 32) = umax64(v604, v605);
+    at(u64, v0 + (i64)v295 + 40) = umin64(v606, v602);
+    at(u64, v0 + (i64)v295 + 48) = umax64(v606, v602);
+    goto v452;
+v559:;
+    if (!(v297 > 1)) return;
+v452:;
+    v615 = 1;
+v614:;
+    u64 v618 = v615 << 3;
+    u64 v620 = v615 - 1;
+    u64 v623 = at(u64, (v0 + (i64)v295) + (i64)v618);
+    u64 v624 = at(u64, (v0 + (i64)v295) + (i64)(v620 << 3));
+    if (!(v623 < v624)) goto v617;
+    at(u64, (v0 + (i64)v295) + (i64)v618) = v624;
+    if (v620 == 0) { v643 = 0; goto v628; }
+    v630 = v620;
+v629:;
+    u64 v631 = v630 - 1;
+    u64 v635 = at(u64, (v0 + (i64)v295) + (i64)(v631 << 3));
+    if (!(v623 < v635)) { v641 = v630; goto v637; }
+    at(u64, (v0 + (i64)v295) + (v630 << 3)) = v635;
+    if (v631 == 0) v641 = 0; else { v630 = v631; goto v629; }
+v637:;
+    v643 = v641 << 3;
+v628:;
+    at(u64, (v0 + (i64)v295) + v643) = v623;
+v617:;
+    u64 v616 = v615 + 1;
+    if (v616 == v297) return;
+    v615 = v616; goto v614;
 }
 
 static NOINLINE u64 core_slice_words_skip_far_3a48(u8 *v0, u64 v1, u64 v2) {
@@ -6662,7 +7169,7 @@ void program_files_out_file_OutFile_is_beside_path(u8 *v0, u8 *v1, u8 *v2) {
     memset(v12, 0, 86u);
     u32 v13 = at(u32, v2);
     memset(v8, 0, 176u);
-    std_fs_stat_stat_at(v8, v13, (u8 *)table_d0e67785, 0, 4096u);
+    std_fs_stat_stat_at(v8, v13, (u8 *)table_55ba7287, 0, 4096u);
     u8 v14 = at(u8, v8);
     u8 v16 = at(u8, v8 + 8);
     u8 v18 = at(u8, v8 + 9);
@@ -7132,7 +7639,7 @@ v252:;
     u64 v258 = at(u64, v36 + 96) << 3;
     u64 v272 = (u64)bswap32(at(u32_1, v259 + (i64)v258 + 8));
     u16 v267 = bswap16(at(u16_1, v259 + (i64)v258 + 6));
-    u16 v277 = bswap16(at(u16_1, (at(u64, v36 + 80) < v272) ? (u8 *)table_d0e67785 : (v259 + (i64)v272)));
+    u16 v277 = bswap16(at(u16_1, (at(u64, v36 + 80) < v272) ? (u8 *)table_55ba7287 : (v259 + (i64)v272)));
     at(u16, v16) = bswap16(at(u16_1, v259 + (i64)v258 + 4));
     at(u16, v17) = v267;
     at(u16, v18) = v277;
@@ -8607,7 +9114,7 @@ v263:;
     u8 v328 = core_fmt_formatter_Formatter_write_indented_04f0(v7, v259, v258);
     v333 = v328;
 v188:;
-    if (v333 & 1) goto v32;
+    if (!(v333 == 0)) goto v32;
 v332:;
     at(u32, v7 + 24) = 32u;
     memset(v7 + 28, 0, 12u);
@@ -8662,9 +9169,9 @@ v386:;
     at(u64, v7 + 16) = v353;
     goto v408;
 v342:;
-    if (core_fmt_formatter_Formatter_write_indented_04f0(v7, v335, v338) & 1) goto v32;
+    if (!(core_fmt_formatter_Formatter_write_indented_04f0(v7, v335, v338) == 0)) goto v32;
 v408:;
-    if (core_fmt_formatter_Formatter_write_piece_13a2(v7, v6 + 40) & 1) goto v32;
+    if (!(core_fmt_formatter_Formatter_write_piece_13a2(v7, v6 + 40) == 0)) goto v32;
     at(u32, v7 + 24) = 32u;
     memset(v7 + 28, 0, 12u);
     at(u64, v7 + 40) = 0xffffffffffffffffu;
@@ -8800,7 +9307,7 @@ v43:;
 v65:;
     at(u64, v4 + 8) = v34;
     at(u64, v4 + 16) = v32;
-    if (core_fmt_formatter_Formatter_write_piece_0850(v4, v3 + 16) & 1) goto v29;
+    if (!(core_fmt_formatter_Formatter_write_piece_0850(v4, v3 + 16) == 0)) goto v29;
     at(u32, v4 + 24) = 32u;
     memset(v4 + 28, 0, 12u);
     at(u64, v4 + 40) = 0xffffffffffffffffu;
@@ -8854,9 +9361,9 @@ v141:;
     at(u64, v4 + 16) = v108;
     goto v163;
 v97:;
-    if (core_fmt_formatter_Formatter_write_indented_04f0(v4, v90, v93) & 1) goto v29;
+    if (!(core_fmt_formatter_Formatter_write_indented_04f0(v4, v90, v93) == 0)) goto v29;
 v163:;
-    if (core_fmt_formatter_Formatter_write_piece_13a2(v4, v3 + 40) & 1) goto v29;
+    if (!(core_fmt_formatter_Formatter_write_piece_13a2(v4, v3 + 40) == 0)) goto v29;
     at(u32, v4 + 24) = 32u;
     memset(v4 + 28, 0, 12u);
     at(u64, v4 + 40) = 0xffffffffffffffffu;
@@ -8910,7 +9417,7 @@ v223:;
     at(u64, v4 + 16) = v190;
     goto v245;
 v179:;
-    if (core_fmt_formatter_Formatter_write_indented_04f0(v4, v172, v175) & 1) goto v29;
+    if (!(core_fmt_formatter_Formatter_write_indented_04f0(v4, v172, v175) == 0)) goto v29;
 v245:;
     at(u32, v4 + 24) = 32u;
     memset(v4 + 28, 0, 12u);
@@ -8966,7 +9473,7 @@ v300:;
     at(u64, v4 + 16) = v267;
     goto v322;
 v256:;
-    if (core_fmt_formatter_Formatter_write_indented_04f0(v4, v249, v252) & 1) goto v29;
+    if (!(core_fmt_formatter_Formatter_write_indented_04f0(v4, v249, v252) == 0)) goto v29;
 v322:;
     at(u32, v4 + 24) = 32u;
     memset(v4 + 28, 0, 12u);
@@ -8979,11 +9486,7 @@ v322:;
     u64 v334 = at(u64, v4 + 8);
     if (!(v328 > (v333 - v334))) { v343 = v333; v344 = v334; goto v338; }
     if (!std_alloc_vec_Vec_grow_amortized_1cf2(v4, v328)) goto v29;
-    v343 = at(u64, v4 + 16); v344 = at(u64, v4 + 8); goto v338;
-v29:;
-    memcpy(v5, v4, 24u);
-    memcpy(v0, v5, 24u);
-    goto v399;
+    v343 = at(u64, v4 + 16); v344 = at(u64, v4 + 8);
 v338:;
     u64 v345 = v344 + v328;
     u8 *v346 = at(ptr, v4);
@@ -9031,6 +9534,10 @@ v332:;
     memcpy(v5, v4, 24u);
     memcpy(v0, v5, 24u);
     if (v400 == 0) return 0;
+    goto v399;
+v29:;
+    memcpy(v5, v4, 24u);
+    memcpy(v0, v5, 24u);
 v399:;
     u8 *v402 = at(ptr, v0);
     u64 v403 = at(u64, v0 + 8);
@@ -10115,7 +10622,7 @@ v138:;
     at(u64, v4 + 16) = v146;
     goto v150;
 v134:;
-    if (core_fmt_formatter_Formatter_write_indented_04f0(v4, v3 + (i64)v127, v130) & 1) goto v33;
+    if (!(core_fmt_formatter_Formatter_write_indented_04f0(v4, v3 + (i64)v127, v130) == 0)) goto v33;
 v150:;
     at(u32, v4 + 24) = 32u;
     memset(v4 + 28, 0, 12u);
@@ -10125,11 +10632,7 @@ v150:;
     u64 v158 = at(u64, v4 + 8);
     if (!(v16 > (v157 - v158))) { v167 = v157; v168 = v158; goto v162; }
     if (!std_alloc_vec_Vec_grow_amortized_1cf2(v4, v16)) goto v33;
-    v167 = at(u64, v4 + 16); v168 = at(u64, v4 + 8); goto v162;
-v33:;
-    memcpy(v5, v4, 24u);
-    memcpy(v0, v5, 24u);
-    goto v223;
+    v167 = at(u64, v4 + 16); v168 = at(u64, v4 + 8);
 v162:;
     u64 v169 = v168 + v16;
     u8 *v170 = at(ptr, v4);
@@ -10177,6 +10680,10 @@ v156:;
     memcpy(v5, v4, 24u);
     memcpy(v0, v5, 24u);
     if (v224 == 0) return 0;
+    goto v223;
+v33:;
+    memcpy(v5, v4, 24u);
+    memcpy(v0, v5, 24u);
 v223:;
     u8 *v226 = at(ptr, v0);
     u64 v227 = at(u64, v0 + 8);
@@ -10613,6 +11120,203 @@ v552:;
     if (!((v547 > v41) & ((i8)at(u8, v546 + v41) > (i8)191u))) return 1;
 v560:;
     at(u64, v0 + 8) = v41;
+    return 1;
+}
+
+u8 std_alloc_string_String_write_fmt_64d7(u8 *v0, u8 *v1) {
+    _Alignas(8) u8 v3[96], v4[64], v5[24];
+    u64 v32, v33, v57, v68, v71, v79, v81, v108, v109, v133, v144, v147, v155, v157, v188, v189, v213, v224, v227, v235, v237;
+    memcpy(v3, v1, 96u);
+    u64 v7 = at(u64, v0 + 8);
+    memcpy(v4, v0, 24u);
+    memset(v4 + 48, 0, 16u);
+    at(u32, v4 + 24) = 32u;
+    memset(v4 + 28, 0, 12u);
+    at(u64, v4 + 40) = 0xffffffffffffffffu;
+    u8 *v15 = at(ptr, v3);
+    u64 v16 = (u64)v15;
+    u64 v18 = at(u64, v3 + 8);
+    u64 v20 = at(u64, v4 + 16);
+    u64 v22 = at(u64, v4 + 8);
+    if (!(v18 > (v20 - v22))) { v32 = v20; v33 = v22; goto v26; }
+    if (!std_alloc_vec_Vec_grow_amortized_1cf2(v4, v18)) goto v29;
+    v32 = at(u64, v4 + 16); v33 = at(u64, v4 + 8);
+v26:;
+    u64 v34 = v33 + v18;
+    u8 *v35 = at(ptr, v4);
+    u64 v36 = (u64)v35;
+    if (!((((u64)(v35 + (i64)v33)) - ((u64)v15)) < v18)) goto v43;
+    if (v18 < 4) { v79 = 0; goto v45; }
+    if (((v33 + v36) - v16) < 32u) { v79 = 0; goto v45; }
+    if (v18 < 16u) { v68 = 0; goto v52; }
+    u64 v54 = v18 & 12u;
+    u64 v55 = v18 & 0xfffffffffffffff0u;
+    v57 = 0;
+v56:;
+    at(u8x16_1, (v35 + (i64)v33) + v57) = at(u8x16_1, v15 + v57);
+    u64 v58 = v57 + 16u;
+    if (!(v58 == v55)) { v57 = v58; goto v56; }
+    if (v18 == v55) goto v65;
+    if (v54 == 0) { v79 = v55; goto v45; }
+    v68 = v55;
+v52:;
+    u64 v69 = v18 & 0xfffffffffffffffcu;
+    v71 = v68;
+v70:;
+    at(u8x4_1, (v35 + (i64)v33) + v71) = at(u8x4_1, v15 + v71);
+    u64 v72 = v71 + 4;
+    if (!(v72 == v69)) { v71 = v72; goto v70; }
+    if (v18 == v69) goto v65;
+    v79 = v69;
+v45:;
+    v81 = v79;
+v80:;
+    at(u8, (v35 + (i64)v33) + v81) = at(u8, v15 + v81);
+    u64 v82 = v81 + 1;
+    if (v82 == v18) goto v65;
+    v81 = v82; goto v80;
+v43:;
+    memmove_any(v35 + (i64)v33, v15, v18);
+v65:;
+    at(u64, v4 + 8) = v34;
+    at(u64, v4 + 16) = v32;
+    at(u32, v4 + 24) = 32u;
+    memset(v4 + 28, 0, 12u);
+    at(u64, v4 + 40) = 0xffffffffffffffffu;
+    if (!(core_fmt_style_DigitsDisplay_fmt_9398(v3 + 16, v4) == 0)) goto v29;
+    at(u32, v4 + 24) = 32u;
+    memset(v4 + 28, 0, 12u);
+    at(u64, v4 + 40) = 0xffffffffffffffffu;
+    u8 *v90 = at(ptr, v3 + 40);
+    u64 v91 = (u64)v90;
+    u64 v93 = at(u64, v3 + 48);
+    if (!(at(u64, v4 + 48) == 0)) goto v97;
+    u64 v98 = at(u64, v4 + 16);
+    u64 v99 = at(u64, v4 + 8);
+    if (!(v93 > (v98 - v99))) { v108 = v98; v109 = v99; goto v103; }
+    if (!std_alloc_vec_Vec_grow_amortized_1cf2(v4, v93)) goto v29;
+    v108 = at(u64, v4 + 16); v109 = at(u64, v4 + 8);
+v103:;
+    u64 v110 = v109 + v93;
+    u8 *v111 = at(ptr, v4);
+    u64 v112 = (u64)v111;
+    if (!((((u64)(v111 + (i64)v109)) - ((u64)v90)) < v93)) goto v119;
+    if (v93 < 4) { v155 = 0; goto v121; }
+    if (((v109 + v112) - v91) < 32u) { v155 = 0; goto v121; }
+    if (v93 < 16u) { v144 = 0; goto v128; }
+    u64 v130 = v93 & 12u;
+    u64 v131 = v93 & 0xfffffffffffffff0u;
+    v133 = 0;
+v132:;
+    at(u8x16_1, (v111 + (i64)v109) + v133) = at(u8x16_1, v90 + v133);
+    u64 v134 = v133 + 16u;
+    if (!(v134 == v131)) { v133 = v134; goto v132; }
+    if (v93 == v131) goto v141;
+    if (v130 == 0) { v155 = v131; goto v121; }
+    v144 = v131;
+v128:;
+    u64 v145 = v93 & 0xfffffffffffffffcu;
+    v147 = v144;
+v146:;
+    at(u8x4_1, (v111 + (i64)v109) + v147) = at(u8x4_1, v90 + v147);
+    u64 v148 = v147 + 4;
+    if (!(v148 == v145)) { v147 = v148; goto v146; }
+    if (v93 == v145) goto v141;
+    v155 = v145;
+v121:;
+    v157 = v155;
+v156:;
+    at(u8, (v111 + (i64)v109) + v157) = at(u8, v90 + v157);
+    u64 v158 = v157 + 1;
+    if (v158 == v93) goto v141;
+    v157 = v158; goto v156;
+v119:;
+    memmove_any(v111 + (i64)v109, v90, v93);
+v141:;
+    at(u64, v4 + 8) = v110;
+    at(u64, v4 + 16) = v108;
+    goto v163;
+v97:;
+    if (!(core_fmt_formatter_Formatter_write_indented_04f0(v4, v90, v93) == 0)) goto v29;
+v163:;
+    at(u32, v4 + 24) = 32u;
+    memset(v4 + 28, 0, 12u);
+    at(u64, v4 + 40) = 0xffffffffffffffffu;
+    if (!(core_fmt_style_DigitsDisplay_fmt_9398(v3 + 56, v4) == 0)) goto v29;
+    at(u32, v4 + 24) = 32u;
+    memset(v4 + 28, 0, 12u);
+    at(u64, v4 + 40) = 0xffffffffffffffffu;
+    u8 *v170 = at(ptr, v3 + 80);
+    u64 v171 = (u64)v170;
+    u64 v173 = at(u64, v3 + 88);
+    if (!(at(u64, v4 + 48) == 0)) goto v177;
+    u64 v178 = at(u64, v4 + 16);
+    u64 v179 = at(u64, v4 + 8);
+    if (!(v173 > (v178 - v179))) { v188 = v178; v189 = v179; goto v183; }
+    if (!std_alloc_vec_Vec_grow_amortized_1cf2(v4, v173)) goto v29;
+    v188 = at(u64, v4 + 16); v189 = at(u64, v4 + 8);
+v183:;
+    u64 v190 = v189 + v173;
+    u8 *v191 = at(ptr, v4);
+    u64 v192 = (u64)v191;
+    if (!((((u64)(v191 + (i64)v189)) - ((u64)v170)) < v173)) goto v199;
+    if (v173 < 4) { v235 = 0; goto v201; }
+    if (((v189 + v192) - v171) < 32u) { v235 = 0; goto v201; }
+    if (v173 < 16u) { v224 = 0; goto v208; }
+    u64 v210 = v173 & 12u;
+    u64 v211 = v173 & 0xfffffffffffffff0u;
+    v213 = 0;
+v212:;
+    at(u8x16_1, (v191 + (i64)v189) + v213) = at(u8x16_1, v170 + v213);
+    u64 v214 = v213 + 16u;
+    if (!(v214 == v211)) { v213 = v214; goto v212; }
+    if (v173 == v211) goto v221;
+    if (v210 == 0) { v235 = v211; goto v201; }
+    v224 = v211;
+v208:;
+    u64 v225 = v173 & 0xfffffffffffffffcu;
+    v227 = v224;
+v226:;
+    at(u8x4_1, (v191 + (i64)v189) + v227) = at(u8x4_1, v170 + v227);
+    u64 v228 = v227 + 4;
+    if (!(v228 == v225)) { v227 = v228; goto v226; }
+    if (v173 == v225) goto v221;
+    v235 = v225;
+v201:;
+    v237 = v235;
+v236:;
+    at(u8, (v191 + (i64)v189) + v237) = at(u8, v170 + v237);
+    u64 v238 = v237 + 1;
+    if (v238 == v173) goto v221;
+    v237 = v238; goto v236;
+v199:;
+    memmove_any(v191 + (i64)v189, v170, v173);
+v221:;
+    at(u64, v4 + 8) = v190;
+    at(u64, v4 + 16) = v188;
+    memcpy(v5, v4, 24u);
+    memcpy(v0, v5, 24u);
+    return 0;
+v177:;
+    u8 v245 = core_fmt_formatter_Formatter_write_indented_04f0(v4, v170, v173);
+    memcpy(v5, v4, 24u);
+    memcpy(v0, v5, 24u);
+    if (v245 == 0) return 0;
+    goto v244;
+v29:;
+    memcpy(v5, v4, 24u);
+    memcpy(v0, v5, 24u);
+v244:;
+    u8 *v247 = at(ptr, v0);
+    u64 v248 = at(u64, v0 + 8);
+    if (!((v7 == 0) | (v7 == v248))) goto v253;
+    if (v248 > v7) goto v261;
+    return 1;
+v253:;
+    if (v248 < v7) return 1;
+    if (!((v248 > v7) & ((i8)at(u8, v247 + v7) > (i8)191u))) return 1;
+v261:;
+    at(u64, v0 + 8) = v7;
     return 1;
 }
 
@@ -11131,7 +11835,7 @@ v42:;
 v64:;
     at(u64, v4 + 8) = v33;
     at(u64, v4 + 16) = v31;
-    if (core_fmt_formatter_Formatter_write_piece_13a2(v4, v3 + 16) & 1) goto v28;
+    if (!(core_fmt_formatter_Formatter_write_piece_13a2(v4, v3 + 16) == 0)) goto v28;
     at(u32, v4 + 24) = 32u;
     memset(v4 + 28, 0, 12u);
     at(u64, v4 + 40) = 0xffffffffffffffffu;
@@ -11143,11 +11847,7 @@ v64:;
     u64 v98 = at(u64, v4 + 8);
     if (!(v92 > (v97 - v98))) { v107 = v97; v108 = v98; goto v102; }
     if (!std_alloc_vec_Vec_grow_amortized_1cf2(v4, v92)) goto v28;
-    v107 = at(u64, v4 + 16); v108 = at(u64, v4 + 8); goto v102;
-v28:;
-    memcpy(v5, v4, 24u);
-    memcpy(v0, v5, 24u);
-    goto v163;
+    v107 = at(u64, v4 + 16); v108 = at(u64, v4 + 8);
 v102:;
     u64 v109 = v108 + v92;
     u8 *v110 = at(ptr, v4);
@@ -11195,6 +11895,10 @@ v96:;
     memcpy(v5, v4, 24u);
     memcpy(v0, v5, 24u);
     if (v164 == 0) return 0;
+    goto v163;
+v28:;
+    memcpy(v5, v4, 24u);
+    memcpy(v0, v5, 24u);
 v163:;
     u8 *v166 = at(ptr, v0);
     u64 v167 = at(u64, v0 + 8);
@@ -11267,7 +11971,7 @@ v43:;
 v65:;
     at(u64, v4 + 8) = v34;
     at(u64, v4 + 16) = v32;
-    if (core_fmt_formatter_Formatter_write_piece_0850(v4, v3 + 16) & 1) goto v29;
+    if (!(core_fmt_formatter_Formatter_write_piece_0850(v4, v3 + 16) == 0)) goto v29;
     at(u32, v4 + 24) = 32u;
     memset(v4 + 28, 0, 12u);
     at(u64, v4 + 40) = 0xffffffffffffffffu;
@@ -11321,7 +12025,7 @@ v141:;
     at(u64, v4 + 16) = v108;
     goto v163;
 v97:;
-    if (core_fmt_formatter_Formatter_write_indented_04f0(v4, v90, v93) & 1) goto v29;
+    if (!(core_fmt_formatter_Formatter_write_indented_04f0(v4, v90, v93) == 0)) goto v29;
 v163:;
     at(u32, v4 + 24) = 32u;
     memset(v4 + 28, 0, 12u);
@@ -11377,8 +12081,7 @@ v218:;
     at(u64, v4 + 16) = v185;
     v245 = v3 + 48; goto v241;
 v174:;
-    if (core_fmt_formatter_Formatter_write_indented_04f0(v4, v167, v170) & 1) goto v29;
-    v245 = v3 + 48;
+    if (core_fmt_formatter_Formatter_write_indented_04f0(v4, v167, v170) == 0) v245 = v3 + 48; else goto v29;
 v241:;
     at(u32, v4 + 24) = 32u;
     memset(v4 + 28, 0, 12u);
@@ -11391,11 +12094,7 @@ v241:;
     u64 v255 = at(u64, v4 + 8);
     if (!(v249 > (v254 - v255))) { v264 = v254; v265 = v255; goto v259; }
     if (!std_alloc_vec_Vec_grow_amortized_1cf2(v4, v249)) goto v29;
-    v264 = at(u64, v4 + 16); v265 = at(u64, v4 + 8); goto v259;
-v29:;
-    memcpy(v5, v4, 24u);
-    memcpy(v0, v5, 24u);
-    goto v320;
+    v264 = at(u64, v4 + 16); v265 = at(u64, v4 + 8);
 v259:;
     u64 v266 = v265 + v249;
     u8 *v267 = at(ptr, v4);
@@ -11443,6 +12142,10 @@ v253:;
     memcpy(v5, v4, 24u);
     memcpy(v0, v5, 24u);
     if (v321 == 0) return 0;
+    goto v320;
+v29:;
+    memcpy(v5, v4, 24u);
+    memcpy(v0, v5, 24u);
 v320:;
     u8 *v323 = at(ptr, v0);
     u64 v324 = at(u64, v0 + 8);
@@ -11641,6 +12344,259 @@ v244:;
     if (!((v239 > v17) & ((i8)at(u8, v238 + v17) > (i8)191u))) return 1;
 v252:;
     at(u64, v0 + 8) = v17;
+    return 1;
+}
+
+u8 std_alloc_string_String_write_fmt_b365(u8 *v0, u8 *v1) {
+    _Alignas(8) u8 v3[120], v4[64], v5[24];
+    u64 v32, v33, v57, v68, v71, v79, v81, v108, v109, v133, v144, v147, v155, v157, v190, v191, v215, v226, v229, v237, v239, v269, v270, v294, v305, v308, v316, v318;
+    memcpy(v3, v1, 120u);
+    u64 v7 = at(u64, v0 + 8);
+    memcpy(v4, v0, 24u);
+    memset(v4 + 48, 0, 16u);
+    at(u32, v4 + 24) = 32u;
+    memset(v4 + 28, 0, 12u);
+    at(u64, v4 + 40) = 0xffffffffffffffffu;
+    u8 *v15 = at(ptr, v3);
+    u64 v16 = (u64)v15;
+    u64 v18 = at(u64, v3 + 8);
+    u64 v20 = at(u64, v4 + 16);
+    u64 v22 = at(u64, v4 + 8);
+    if (!(v18 > (v20 - v22))) { v32 = v20; v33 = v22; goto v26; }
+    if (!std_alloc_vec_Vec_grow_amortized_1cf2(v4, v18)) goto v29;
+    v32 = at(u64, v4 + 16); v33 = at(u64, v4 + 8);
+v26:;
+    u64 v34 = v33 + v18;
+    u8 *v35 = at(ptr, v4);
+    u64 v36 = (u64)v35;
+    if (!((((u64)(v35 + (i64)v33)) - ((u64)v15)) < v18)) goto v43;
+    if (v18 < 4) { v79 = 0; goto v45; }
+    if (((v33 + v36) - v16) < 32u) { v79 = 0; goto v45; }
+    if (v18 < 16u) { v68 = 0; goto v52; }
+    u64 v54 = v18 & 12u;
+    u64 v55 = v18 & 0xfffffffffffffff0u;
+    v57 = 0;
+v56:;
+    at(u8x16_1, (v35 + (i64)v33) + v57) = at(u8x16_1, v15 + v57);
+    u64 v58 = v57 + 16u;
+    if (!(v58 == v55)) { v57 = v58; goto v56; }
+    if (v18 == v55) goto v65;
+    if (v54 == 0) { v79 = v55; goto v45; }
+    v68 = v55;
+v52:;
+    u64 v69 = v18 & 0xfffffffffffffffcu;
+    v71 = v68;
+v70:;
+    at(u8x4_1, (v35 + (i64)v33) + v71) = at(u8x4_1, v15 + v71);
+    u64 v72 = v71 + 4;
+    if (!(v72 == v69)) { v71 = v72; goto v70; }
+    if (v18 == v69) goto v65;
+    v79 = v69;
+v45:;
+    v81 = v79;
+v80:;
+    at(u8, (v35 + (i64)v33) + v81) = at(u8, v15 + v81);
+    u64 v82 = v81 + 1;
+    if (v82 == v18) goto v65;
+    v81 = v82; goto v80;
+v43:;
+    memmove_any(v35 + (i64)v33, v15, v18);
+v65:;
+    at(u64, v4 + 8) = v34;
+    at(u64, v4 + 16) = v32;
+    if (!(core_fmt_formatter_Formatter_write_piece_0850(v4, v3 + 16) == 0)) goto v29;
+    at(u32, v4 + 24) = 32u;
+    memset(v4 + 28, 0, 12u);
+    at(u64, v4 + 40) = 0xffffffffffffffffu;
+    u8 *v90 = at(ptr, v3 + 24);
+    u64 v91 = (u64)v90;
+    u64 v93 = at(u64, v3 + 32);
+    if (!(at(u64, v4 + 48) == 0)) goto v97;
+    u64 v98 = at(u64, v4 + 16);
+    u64 v99 = at(u64, v4 + 8);
+    if (!(v93 > (v98 - v99))) { v108 = v98; v109 = v99; goto v103; }
+    if (!std_alloc_vec_Vec_grow_amortized_1cf2(v4, v93)) goto v29;
+    v108 = at(u64, v4 + 16); v109 = at(u64, v4 + 8);
+v103:;
+    u64 v110 = v109 + v93;
+    u8 *v111 = at(ptr, v4);
+    u64 v112 = (u64)v111;
+    if (!((((u64)(v111 + (i64)v109)) - ((u64)v90)) < v93)) goto v119;
+    if (v93 < 4) { v155 = 0; goto v121; }
+    if (((v109 + v112) - v91) < 32u) { v155 = 0; goto v121; }
+    if (v93 < 16u) { v144 = 0; goto v128; }
+    u64 v130 = v93 & 12u;
+    u64 v131 = v93 & 0xfffffffffffffff0u;
+    v133 = 0;
+v132:;
+    at(u8x16_1, (v111 + (i64)v109) + v133) = at(u8x16_1, v90 + v133);
+    u64 v134 = v133 + 16u;
+    if (!(v134 == v131)) { v133 = v134; goto v132; }
+    if (v93 == v131) goto v141;
+    if (v130 == 0) { v155 = v131; goto v121; }
+    v144 = v131;
+v128:;
+    u64 v145 = v93 & 0xfffffffffffffffcu;
+    v147 = v144;
+v146:;
+    at(u8x4_1, (v111 + (i64)v109) + v147) = at(u8x4_1, v90 + v147);
+    u64 v148 = v147 + 4;
+    if (!(v148 == v145)) { v147 = v148; goto v146; }
+    if (v93 == v145) goto v141;
+    v155 = v145;
+v121:;
+    v157 = v155;
+v156:;
+    at(u8, (v111 + (i64)v109) + v157) = at(u8, v90 + v157);
+    u64 v158 = v157 + 1;
+    if (v158 == v93) goto v141;
+    v157 = v158; goto v156;
+v119:;
+    memmove_any(v111 + (i64)v109, v90, v93);
+v141:;
+    at(u64, v4 + 8) = v110;
+    at(u64, v4 + 16) = v108;
+    goto v163;
+v97:;
+    if (!(core_fmt_formatter_Formatter_write_indented_04f0(v4, v90, v93) == 0)) goto v29;
+v163:;
+    at(u32, v4 + 24) = 32u;
+    memset(v4 + 28, 0, 12u);
+    at(u64, v4 + 40) = 0xffffffffffffffffu;
+    if (!(core_fmt_style_DigitsDisplay_fmt_9398(v3 + 40, v4) == 0)) goto v29;
+    at(u32, v4 + 24) = 32u;
+    memset(v4 + 28, 0, 12u);
+    at(u64, v4 + 40) = 0xffffffffffffffffu;
+    u8 *v172 = at(ptr, v3 + 64);
+    u64 v173 = (u64)v172;
+    u64 v175 = at(u64, v3 + 72);
+    if (!(at(u64, v4 + 48) == 0)) goto v179;
+    u64 v180 = at(u64, v4 + 16);
+    u64 v181 = at(u64, v4 + 8);
+    if (!(v175 > (v180 - v181))) { v190 = v180; v191 = v181; goto v185; }
+    if (!std_alloc_vec_Vec_grow_amortized_1cf2(v4, v175)) goto v29;
+    v190 = at(u64, v4 + 16); v191 = at(u64, v4 + 8);
+v185:;
+    u64 v192 = v191 + v175;
+    u8 *v193 = at(ptr, v4);
+    u64 v194 = (u64)v193;
+    if (!((((u64)(v193 + (i64)v191)) - ((u64)v172)) < v175)) goto v201;
+    if (v175 < 4) { v237 = 0; goto v203; }
+    if (((v191 + v194) - v173) < 32u) { v237 = 0; goto v203; }
+    if (v175 < 16u) { v226 = 0; goto v210; }
+    u64 v212 = v175 & 12u;
+    u64 v213 = v175 & 0xfffffffffffffff0u;
+    v215 = 0;
+v214:;
+    at(u8x16_1, (v193 + (i64)v191) + v215) = at(u8x16_1, v172 + v215);
+    u64 v216 = v215 + 16u;
+    if (!(v216 == v213)) { v215 = v216; goto v214; }
+    if (v175 == v213) goto v223;
+    if (v212 == 0) { v237 = v213; goto v203; }
+    v226 = v213;
+v210:;
+    u64 v227 = v175 & 0xfffffffffffffffcu;
+    v229 = v226;
+v228:;
+    at(u8x4_1, (v193 + (i64)v191) + v229) = at(u8x4_1, v172 + v229);
+    u64 v230 = v229 + 4;
+    if (!(v230 == v227)) { v229 = v230; goto v228; }
+    if (v175 == v227) goto v223;
+    v237 = v227;
+v203:;
+    v239 = v237;
+v238:;
+    at(u8, (v193 + (i64)v191) + v239) = at(u8, v172 + v239);
+    u64 v240 = v239 + 1;
+    if (v240 == v175) goto v223;
+    v239 = v240; goto v238;
+v201:;
+    memmove_any(v193 + (i64)v191, v172, v175);
+v223:;
+    at(u64, v4 + 8) = v192;
+    at(u64, v4 + 16) = v190;
+    goto v245;
+v179:;
+    if (!(core_fmt_formatter_Formatter_write_indented_04f0(v4, v172, v175) == 0)) goto v29;
+v245:;
+    at(u32, v4 + 24) = 32u;
+    memset(v4 + 28, 0, 12u);
+    at(u64, v4 + 40) = 0xffffffffffffffffu;
+    if (!(core_fmt_style_DigitsDisplay_fmt_9398(v3 + 80, v4) == 0)) goto v29;
+    at(u32, v4 + 24) = 32u;
+    memset(v4 + 28, 0, 12u);
+    at(u64, v4 + 40) = 0xffffffffffffffffu;
+    u8 *v251 = at(ptr, v3 + 104);
+    u64 v252 = (u64)v251;
+    u64 v254 = at(u64, v3 + 112);
+    if (!(at(u64, v4 + 48) == 0)) goto v258;
+    u64 v259 = at(u64, v4 + 16);
+    u64 v260 = at(u64, v4 + 8);
+    if (!(v254 > (v259 - v260))) { v269 = v259; v270 = v260; goto v264; }
+    if (!std_alloc_vec_Vec_grow_amortized_1cf2(v4, v254)) goto v29;
+    v269 = at(u64, v4 + 16); v270 = at(u64, v4 + 8);
+v264:;
+    u64 v271 = v270 + v254;
+    u8 *v272 = at(ptr, v4);
+    u64 v273 = (u64)v272;
+    if (!((((u64)(v272 + (i64)v270)) - ((u64)v251)) < v254)) goto v280;
+    if (v254 < 4) { v316 = 0; goto v282; }
+    if (((v270 + v273) - v252) < 32u) { v316 = 0; goto v282; }
+    if (v254 < 16u) { v305 = 0; goto v289; }
+    u64 v291 = v254 & 12u;
+    u64 v292 = v254 & 0xfffffffffffffff0u;
+    v294 = 0;
+v293:;
+    at(u8x16_1, (v272 + (i64)v270) + v294) = at(u8x16_1, v251 + v294);
+    u64 v295 = v294 + 16u;
+    if (!(v295 == v292)) { v294 = v295; goto v293; }
+    if (v254 == v292) goto v302;
+    if (v291 == 0) { v316 = v292; goto v282; }
+    v305 = v292;
+v289:;
+    u64 v306 = v254 & 0xfffffffffffffffcu;
+    v308 = v305;
+v307:;
+    at(u8x4_1, (v272 + (i64)v270) + v308) = at(u8x4_1, v251 + v308);
+    u64 v309 = v308 + 4;
+    if (!(v309 == v306)) { v308 = v309; goto v307; }
+    if (v254 == v306) goto v302;
+    v316 = v306;
+v282:;
+    v318 = v316;
+v317:;
+    at(u8, (v272 + (i64)v270) + v318) = at(u8, v251 + v318);
+    u64 v319 = v318 + 1;
+    if (v319 == v254) goto v302;
+    v318 = v319; goto v317;
+v280:;
+    memmove_any(v272 + (i64)v270, v251, v254);
+v302:;
+    at(u64, v4 + 8) = v271;
+    at(u64, v4 + 16) = v269;
+    memcpy(v5, v4, 24u);
+    memcpy(v0, v5, 24u);
+    return 0;
+v258:;
+    u8 v326 = core_fmt_formatter_Formatter_write_indented_04f0(v4, v251, v254);
+    memcpy(v5, v4, 24u);
+    memcpy(v0, v5, 24u);
+    if (v326 == 0) return 0;
+    goto v325;
+v29:;
+    memcpy(v5, v4, 24u);
+    memcpy(v0, v5, 24u);
+v325:;
+    u8 *v328 = at(ptr, v0);
+    u64 v329 = at(u64, v0 + 8);
+    if (!((v7 == 0) | (v7 == v329))) goto v334;
+    if (v329 > v7) goto v342;
+    return 1;
+v334:;
+    if (v329 < v7) return 1;
+    if (!((v329 > v7) & ((i8)at(u8, v328 + v7) > (i8)191u))) return 1;
+v342:;
+    at(u64, v0 + 8) = v7;
     return 1;
 }
 
@@ -12840,7 +13796,7 @@ v43:;
 v65:;
     at(u64, v4 + 8) = v34;
     at(u64, v4 + 16) = v32;
-    if (core_fmt_formatter_Formatter_write_piece_0850(v4, v3 + 16) & 1) goto v29;
+    if (!(core_fmt_formatter_Formatter_write_piece_0850(v4, v3 + 16) == 0)) goto v29;
     at(u32, v4 + 24) = 32u;
     memset(v4 + 28, 0, 12u);
     at(u64, v4 + 40) = 0xffffffffffffffffu;
@@ -12894,7 +13850,7 @@ v141:;
     at(u64, v4 + 16) = v108;
     goto v163;
 v97:;
-    if (core_fmt_formatter_Formatter_write_indented_04f0(v4, v90, v93) & 1) goto v29;
+    if (!(core_fmt_formatter_Formatter_write_indented_04f0(v4, v90, v93) == 0)) goto v29;
 v163:;
     at(u32, v4 + 24) = 32u;
     memset(v4 + 28, 0, 12u);
@@ -12949,8 +13905,7 @@ v217:;
     at(u64, v4 + 16) = v184;
     v244 = v3 + 56; goto v240;
 v173:;
-    if (core_fmt_formatter_Formatter_write_indented_04f0(v4, v166, v169) & 1) goto v29;
-    v244 = v3 + 56;
+    if (core_fmt_formatter_Formatter_write_indented_04f0(v4, v166, v169) == 0) v244 = v3 + 56; else goto v29;
 v240:;
     at(u32, v4 + 24) = 32u;
     memset(v4 + 28, 0, 12u);
@@ -12963,11 +13918,7 @@ v240:;
     u64 v254 = at(u64, v4 + 8);
     if (!(v248 > (v253 - v254))) { v263 = v253; v264 = v254; goto v258; }
     if (!std_alloc_vec_Vec_grow_amortized_1cf2(v4, v248)) goto v29;
-    v263 = at(u64, v4 + 16); v264 = at(u64, v4 + 8); goto v258;
-v29:;
-    memcpy(v5, v4, 24u);
-    memcpy(v0, v5, 24u);
-    goto v319;
+    v263 = at(u64, v4 + 16); v264 = at(u64, v4 + 8);
 v258:;
     u64 v265 = v264 + v248;
     u8 *v266 = at(ptr, v4);
@@ -13015,6 +13966,10 @@ v252:;
     memcpy(v5, v4, 24u);
     memcpy(v0, v5, 24u);
     if (v320 == 0) return 0;
+    goto v319;
+v29:;
+    memcpy(v5, v4, 24u);
+    memcpy(v0, v5, 24u);
 v319:;
     u8 *v322 = at(ptr, v0);
     u64 v323 = at(u64, v0 + 8);
@@ -13134,37 +14089,21 @@ v71:;
 }
 
 void std_alloc_vec_Vec_drop_00e8(u8 *v0) {
-    u64 v10;
-    u8 *v2 = at(ptr_1, v0);
-    u64 v4 = at(u64_1, v0 + 8);
-    u64 v6 = at(u64_1, v0 + 16);
-    if (v4 == 0) goto v8;
-    v10 = 0;
+    _Alignas(8) u8 v2[168];
+    u64 v11;
+    u8 *v3 = at(ptr_1, v0);
+    u64 v5 = at(u64_1, v0 + 8);
+    u64 v7 = at(u64_1, v0 + 16);
+    if (v5 == 0) goto v9;
+    v11 = 0;
+v10:;
+    memcpy(v2, v3 + (v11 * 168u), 168u);
+    font_cmd_asked_slice_list_Slice_drop(v2);
+    u64 v12 = v11 + 1;
+    if (!(v12 == v5)) { v11 = v12; goto v10; }
 v9:;
-    u64 v13 = v10 * 144u;
-    u8 *v16 = at(ptr_1, v2 + v13 + 16);
-    u64 v18 = at(u64_1, v2 + v13 + 32);
-    u8 *v20 = at(ptr_1, v2 + v13 + 56);
-    u64 v22 = at(u64_1, v2 + v13 + 72);
-    u8 *v24 = at(ptr_1, v2 + v13 + 80);
-    u64 v26 = at(u64_1, v2 + v13 + 96);
-    if (at(u64_1, v2 + v13 + 136) == 0) goto v30;
-    sys_rattle_dealloc(at(ptr_1, v2 + v13 + 120));
-v30:;
-    if (v26 == 0) goto v35;
-    sys_rattle_dealloc(v24);
-v35:;
-    if (v22 == 0) goto v38;
-    sys_rattle_dealloc(v20);
-v38:;
-    if (v18 == 0) goto v12;
-    sys_rattle_dealloc(v16);
-v12:;
-    u64 v11 = v10 + 1;
-    if (!(v11 == v4)) { v10 = v11; goto v9; }
-v8:;
-    if (v6 == 0) return;
-    sys_rattle_dealloc(v2);
+    if (v7 == 0) return;
+    sys_rattle_dealloc(v3);
     return;
 }
 
@@ -13333,6 +14272,28 @@ v12:;
 v10:;
     at(ptr, v0) = (u8 *)v35._1;
     at(u64, v0 + 16) = v20;
+    return 1;
+}
+
+COLD NOINLINE flag std_alloc_vec_Vec_grow_amortized_0399(u8 *v0) {
+    u64_u64 v33;
+    u64 v3 = at(u64, v0 + 8);
+    if (v3 == 0xffffffffffffffffu) return 0;
+    u64 v12 = at(u64, v0 + 16);
+    u64 v14 = umax64(v3, 3) + 1;
+    u64 v17 = umax64(v14, v12 << 1);
+    u64 v18 = (v12 < 0x4000000000000000u) ? v17 : v14;
+    if (!(v18 < 0x4000000000000000u)) return 0;
+    if (!(v12 == 0)) goto v10;
+    u64_u64 v30 = sys_rattle_alloc(v17 << 1, 2);
+    if (v30._0 & 1) { v33 = v30; goto v8; }
+    return 0;
+v10:;
+    u64_u64 v25 = sys_rattle_realloc(at(ptr, v0), v3 << 1, v18 << 1, 2);
+    if (v25._0 & 1) v33 = v25; else return 0;
+v8:;
+    at(ptr, v0) = (u8 *)v33._1;
+    at(u64, v0 + 16) = v18;
     return 1;
 }
 
@@ -13600,6 +14561,28 @@ v8:;
     return 1;
 }
 
+COLD NOINLINE flag std_alloc_vec_Vec_grow_amortized_5986(u8 *v0) {
+    u64_u64 v33;
+    u64 v3 = at(u64, v0 + 8);
+    if (v3 == 0xffffffffffffffffu) return 0;
+    u64 v12 = at(u64, v0 + 16);
+    u64 v14 = umax64(v3, 3) + 1;
+    u64 v17 = umax64(v14, v12 << 1);
+    u64 v18 = (v12 < 0x4000000000000000u) ? v17 : v14;
+    if (!(v18 < 0xaaaaaaaaaaaaaabu)) return 0;
+    if (!(v12 == 0)) goto v10;
+    u64_u64 v30 = sys_rattle_alloc(v17 * 12u, 4);
+    if (v30._0 & 1) { v33 = v30; goto v8; }
+    return 0;
+v10:;
+    u64_u64 v25 = sys_rattle_realloc(at(ptr, v0), v3 * 12u, v18 * 12u, 4);
+    if (v25._0 & 1) v33 = v25; else return 0;
+v8:;
+    at(ptr, v0) = (u8 *)v33._1;
+    at(u64, v0 + 16) = v18;
+    return 1;
+}
+
 COLD NOINLINE flag std_alloc_vec_Vec_grow_amortized_5b05(u8 *v0) {
     u64_u64 v33;
     u64 v3 = at(u64, v0 + 8);
@@ -13652,13 +14635,13 @@ COLD NOINLINE flag std_alloc_vec_Vec_grow_amortized_99cc(u8 *v0) {
     u64 v14 = umax64(v3, 3) + 1;
     u64 v17 = umax64(v14, v12 << 1);
     u64 v18 = (v12 < 0x4000000000000000u) ? v17 : v14;
-    if (!(v18 < 0xe38e38e38e38e4u)) return 0;
+    if (!(v18 < 0xc30c30c30c30c4u)) return 0;
     if (!(v12 == 0)) goto v10;
-    u64_u64 v30 = sys_rattle_alloc(v17 * 144u, 8);
+    u64_u64 v30 = sys_rattle_alloc(v17 * 168u, 8);
     if (v30._0 & 1) { v33 = v30; goto v8; }
     return 0;
 v10:;
-    u64_u64 v25 = sys_rattle_realloc(at(ptr, v0), v3 * 144u, v18 * 144u, 8);
+    u64_u64 v25 = sys_rattle_realloc(at(ptr, v0), v3 * 168u, v18 * 168u, 8);
     if (v25._0 & 1) v33 = v25; else return 0;
 v8:;
     at(ptr, v0) = (u8 *)v33._1;
@@ -13732,6 +14715,28 @@ v8:;
     return 1;
 }
 
+COLD NOINLINE flag std_alloc_vec_Vec_grow_amortized_bac5(u8 *v0) {
+    u64_u64 v33;
+    u64 v3 = at(u64, v0 + 8);
+    if (v3 == 0xffffffffffffffffu) return 0;
+    u64 v12 = at(u64, v0 + 16);
+    u64 v14 = umax64(v3, 3) + 1;
+    u64 v17 = umax64(v14, v12 << 1);
+    u64 v18 = (v12 < 0x4000000000000000u) ? v17 : v14;
+    if (!(v18 < 0x200000000000000u)) return 0;
+    if (!(v12 == 0)) goto v10;
+    u64_u64 v30 = sys_rattle_alloc(v17 << 6, 8);
+    if (v30._0 & 1) { v33 = v30; goto v8; }
+    return 0;
+v10:;
+    u64_u64 v25 = sys_rattle_realloc(at(ptr, v0), v3 << 6, v18 << 6, 8);
+    if (v25._0 & 1) v33 = v25; else return 0;
+v8:;
+    at(ptr, v0) = (u8 *)v33._1;
+    at(u64, v0 + 16) = v18;
+    return 1;
+}
+
 COLD NOINLINE flag std_alloc_vec_Vec_grow_amortized_be05(u8 *v0) {
     u64_u64 v33;
     u64 v3 = at(u64, v0 + 8);
@@ -13751,6 +14756,28 @@ v10:;
 v8:;
     at(ptr, v0) = (u8 *)v33._1;
     at(u64, v0 + 16) = v18;
+    return 1;
+}
+
+COLD NOINLINE flag std_alloc_vec_Vec_grow_amortized_cf6b(u8 *v0, u64 v1) {
+    u64_u64 v35;
+    u64 v4 = at(u64, v0 + 8);
+    if (v1 > (v4 ^ 0xffffffffffffffffu)) return 0;
+    u64 v14 = at(u64, v0 + 16);
+    u64 v16 = umax64(v4 + v1, 4);
+    u64 v19 = umax64(v16, v14 << 1);
+    u64 v20 = (v14 < 0x4000000000000000u) ? v19 : v16;
+    if (!(v20 < 0x1000000000000000u)) return 0;
+    if (!(v14 == 0)) goto v12;
+    u64_u64 v32 = sys_rattle_alloc(v19 << 3, 4);
+    if (v32._0 & 1) { v35 = v32; goto v10; }
+    return 0;
+v12:;
+    u64_u64 v27 = sys_rattle_realloc(at(ptr, v0), v4 << 3, v20 << 3, 4);
+    if (v27._0 & 1) v35 = v27; else return 0;
+v10:;
+    at(ptr, v0) = (u8 *)v35._1;
+    at(u64, v0 + 16) = v20;
     return 1;
 }
 
@@ -13916,6 +14943,63 @@ v55:;
     return;
 }
 
+void std_alloc_vec_Vec_sort_unstable(u8 *v0) {
+    u64 v11, v26, v37, v39, v48, v60, v70;
+    u8 *v2 = at(ptr, v0);
+    u64 v4 = at(u64, v0 + 8);
+    if (!(v4 < 21u)) goto v7;
+    if (v4 > 1) v11 = 1; else return;
+v9:;
+    u64 v14 = v11 << 3;
+    u64 v16 = v11 - 1;
+    u64 v19 = at(u64, v2 + (i64)v14);
+    u64 v20 = at(u64, v2 + (i64)(v16 << 3));
+    if (!(v19 < v20)) goto v13;
+    at(u64, v2 + (i64)v14) = v20;
+    if (v16 == 0) { v39 = 0; goto v24; }
+    v26 = v16;
+v25:;
+    u64 v27 = v26 - 1;
+    u64 v31 = at(u64, v2 + (i64)(v27 << 3));
+    if (!(v19 < v31)) { v37 = v26; goto v33; }
+    at(u64, v2 + (v26 << 3)) = v31;
+    if (v27 == 0) v37 = 0; else { v26 = v27; goto v25; }
+v33:;
+    v39 = v37 << 3;
+v24:;
+    at(u64, v2 + v39) = v19;
+v13:;
+    u64 v12 = v11 + 1;
+    if (v12 == v4) return;
+    v11 = v12; goto v9;
+v7:;
+    flag v45 = at(u64, v2 + 8) < at(u64, v2);
+    if (v45) v48 = 2; else { v60 = 2; goto v47; }
+v46:;
+    u64 v51 = v48 << 3;
+    if (!(at(u64, v2 + (i64)v51) < at(u64, v2 + (i64)v51 - 8))) { v70 = v48; goto v57; }
+    u64 v49 = v48 + 1;
+    if (v49 == v4) goto v59;
+    v48 = v49; goto v46;
+v47:;
+    u64 v63 = v60 << 3;
+    if (at(u64, v2 + (i64)v63) < at(u64, v2 + (i64)v63 - 8)) v70 = v60; else goto v62;
+v57:;
+    if (!(v70 < v4)) goto v73;
+    core_slice_sort_unstable_quicksort_6868(v2, 0, v4, (((u32)ctlz64(v4)) << 1) ^ 126u);
+    return;
+v73:;
+    if (!v45) return;
+v59:;
+    u64 v78 = v4 >> 1;
+    core_slice_edits_mirror_2560(v2, v2 + (i64)((v4 - v78) << 3), v78);
+    return;
+v62:;
+    u64 v61 = v60 + 1;
+    if (v61 == v4) return;
+    v60 = v61; goto v47;
+}
+
 void std_alloc_vec_deque_VecDeque_drop_10dc(u8 *v0) {
     u64 v19, v32;
     u8 *v2 = at(ptr_1, v0);
@@ -13976,69 +15060,6 @@ v35:;
 v38:;
     u64 v37 = v36 + 1;
     if (!(v37 == v8)) { v36 = v37; goto v35; }
-v10:;
-    if (v6 == 0) return;
-    sys_rattle_dealloc(v2);
-    return;
-}
-
-void std_alloc_vec_deque_VecDeque_drop_b036(u8 *v0) {
-    u64 v19, v54;
-    u8 *v2 = at(ptr_1, v0);
-    u64 v4 = at(u64_1, v0 + 8);
-    u64 v6 = at(u64_1, v0 + 16);
-    u64 v8 = at(u64_1, v0 + 32);
-    if (v4 == 0) goto v10;
-    u64 v13 = at(u64_1, v0 + 24);
-    u64 v15 = v13 + (v4 - v8);
-    if (v13 < v15) v19 = v13; else goto v18;
-v17:;
-    u64 v22 = v19 * 144u;
-    u8 *v25 = at(ptr_1, v2 + v22 + 16);
-    u64 v27 = at(u64_1, v2 + v22 + 32);
-    u8 *v29 = at(ptr_1, v2 + v22 + 56);
-    u64 v31 = at(u64_1, v2 + v22 + 72);
-    u8 *v33 = at(ptr_1, v2 + v22 + 80);
-    u64 v35 = at(u64_1, v2 + v22 + 96);
-    if (at(u64_1, v2 + v22 + 136) == 0) goto v39;
-    sys_rattle_dealloc(at(ptr_1, v2 + v22 + 120));
-v39:;
-    if (v35 == 0) goto v44;
-    sys_rattle_dealloc(v33);
-v44:;
-    if (v31 == 0) goto v47;
-    sys_rattle_dealloc(v29);
-v47:;
-    if (v27 == 0) goto v21;
-    sys_rattle_dealloc(v25);
-v21:;
-    u64 v20 = v19 + 1;
-    if (!(v20 == v15)) { v19 = v20; goto v17; }
-v18:;
-    if (v8 == 0) goto v10;
-    v54 = 0;
-v53:;
-    u64 v57 = v54 * 144u;
-    u8 *v60 = at(ptr_1, v2 + v57 + 16);
-    u64 v62 = at(u64_1, v2 + v57 + 32);
-    u8 *v64 = at(ptr_1, v2 + v57 + 56);
-    u64 v66 = at(u64_1, v2 + v57 + 72);
-    u8 *v68 = at(ptr_1, v2 + v57 + 80);
-    u64 v70 = at(u64_1, v2 + v57 + 96);
-    if (at(u64_1, v2 + v57 + 136) == 0) goto v74;
-    sys_rattle_dealloc(at(ptr_1, v2 + v57 + 120));
-v74:;
-    if (v70 == 0) goto v79;
-    sys_rattle_dealloc(v68);
-v79:;
-    if (v66 == 0) goto v82;
-    sys_rattle_dealloc(v64);
-v82:;
-    if (v62 == 0) goto v56;
-    sys_rattle_dealloc(v60);
-v56:;
-    u64 v55 = v54 + 1;
-    if (!(v55 == v8)) { v54 = v55; goto v53; }
 v10:;
     if (v6 == 0) return;
     sys_rattle_dealloc(v2);
@@ -15581,7 +16602,7 @@ v46:;
     if (v45 == 0) { v55 = v1 + (i64)v35; v56 = v37; v57 = v1; v58 = 1; goto v39; }
     v47 = v44; v44 = v45; goto v43;
 v31:;
-    v55 = v1; v56 = v24; v57 = (u8 *)table_d0e67785; v58 = 0;
+    v55 = v1; v56 = v24; v57 = (u8 *)table_55ba7287; v58 = 0;
 v39:;
     at(u64_1, v0) = 1;
     at(ptr_1, v0 + 8) = v57;

@@ -1,6 +1,6 @@
 /* Fonts in memory that are changed at random, with knowledge of their tables: a table's bytes, a field, an offset, a
- * record, the mapping, metrics, what GSUB and gvar are read by, the directory, or the end of the file. What is chosen
- * is decided by `state`, which a program sets for each case. */
+ * record, the mapping, metrics, what GSUB, gvar and variation sequences are read by, the directory, or the end of the
+ * file. What is chosen is decided by `state`, which a program sets for each case. */
 #ifndef FONT_CHANGES_H
 #define FONT_CHANGES_H
 
@@ -9,7 +9,7 @@
 #include <stdlib.h>
 #include <string.h>
 
-enum { CHANGES = 15, TAG = 4, LAYOUT_TABLES = 5, ADDED_TABLES = 13 };
+enum { CHANGES = 17, TAG = 4, LAYOUT_TABLES = 5, ADDED_TABLES = 13 };
 /* The tables of layout, and then those of variations. */
 static const char added_tags[ADDED_TABLES][TAG + 1] = {"BASE", "GDEF", "GPOS", "GSUB", "kern", "HVAR", "MVAR",
                                                        "STAT", "VVAR", "avar", "cvar", "fvar", "gvar"};
@@ -158,6 +158,33 @@ static size_t data_at(bytes file, uint32_t glyph, size_t *length)
     return gvar + number_at(file, gvar + 16, 4) + first;
 }
 
+/* The place of the next encoding record 0/5 (variation sequences) of `cmap` that is not before another one, or 0. */
+static size_t sequence_record(bytes file, size_t from)
+{
+    size_t length, cmap = table_at(file, "cmap", &length), count = length >= 4 ? number_at(file, cmap + 2, 2) : 0;
+    for (size_t i = 0; i < count && 12 + 8 * i <= length; i++)
+        if (cmap + 4 + 8 * i >= from && number_at(file, cmap + 4 + 8 * i, 4) == 5)
+            return cmap + 4 + 8 * i;
+    return 0;
+}
+
+/* The place of the first subtable of variation sequences, and how many bytes of `cmap` there are from there on; none
+ * where its header is not all there. */
+static size_t sequences_at(bytes file, size_t *length)
+{
+    size_t record = sequence_record(file, 0), cmap = table_at(file, "cmap", length);
+    size_t offset = record ? number_at(file, record + 4, 4) : *length;
+    *length = offset + 10 <= *length ? *length - offset : 0;
+    return cmap + offset;
+}
+
+/* Gives the encoding records of variation sequences an encoding that no reader knows. */
+static void hide_sequences(bytes file)
+{
+    for (size_t record = sequence_record(file, 0); record; record = sequence_record(file, record))
+        file.at[record + 2] ^= 0x80;
+}
+
 /* --- Changes ---------------------------------------------------------------------------------------------------- */
 
 /* A number near another one, or one of those at which rules change. */
@@ -297,6 +324,27 @@ static void change_variations(bytes file)
     }
 }
 
+/* Changes a number by which variation sequences are read: of the header, of the record of a selector, of a list or of
+ * an item of it. */
+static void change_sequences(bytes file)
+{
+    size_t length, table = sequences_at(file, &length);
+    if (length == 0)
+        return;
+    unsigned is_mapping = chance(2);
+    size_t record = table + 10 + 11 * chance(number_at(file, table + 6, 4));
+    size_t list = table + number_at(file, record + (is_mapping ? 7 : 3), 4);
+    size_t item = list + 4 + (4 + is_mapping) * chance(number_at(file, list, 4));
+    const struct {
+        size_t at;
+        unsigned width;
+    } places[] = {{table, 2},      {table + 2, 4},  {table + 6, 4}, {record, 3}, {record + 3, 4},
+                  {record + 7, 4}, {list, 4},       {item, 3},      {item, 3},   {item + 3, 1 + is_mapping}};
+    size_t which = chance(sizeof places / sizeof *places);
+    uint32_t number = number_at(file, places[which].at, places[which].width);
+    put_number(file, places[which].at, places[which].width, chance(2) ? near(number) : (uint32_t)chance(0x60));
+}
+
 /* Gives a table of layout or of variations the tag of another one, which may then stand twice. */
 static void change_tag(bytes file)
 {
@@ -323,7 +371,7 @@ static bytes changed(bytes file)
     static void (*const changes[CHANGES])(bytes) = {
         NULL,           NULL,         change_bytes, change_field,      change_offset,     change_record, change_mapping,
         change_metrics, change_links, change_links, change_variations, change_variations, change_header, change_tag,
-        change_record_of_table};
+        change_record_of_table, change_sequences, change_sequences};
     bytes made = copied(file);
     uint64_t which = chance(CHANGES + 1);
     if (which == CHANGES)

@@ -1,7 +1,7 @@
 """Fonts that are made of a font by small changes, all their sums right, but where tags or places are changed."""
 import struct
 from typing import Mapping, Optional
-from font_cutting import Group, assembled, cmap_table, cut, groups_of, ranges, whole_map
+from font_cutting import Group, assembled, cmap_table, cut, groups_of, ranges, sequences, whole_map
 from font_reading import offset, records_of, table, tables_of, u16
 
 
@@ -25,7 +25,7 @@ def with_bytes(file: bytes, places: Mapping[bytes, int]) -> bytes:
 
 def with_codes(file: bytes, codes: Mapping[int, int]) -> bytes:
     """The font with some codes on other glyphs."""
-    return with_tables(file, {b"cmap": cmap_table(groups_of({**whole_map(file), **codes}))})
+    return with_tables(file, {b"cmap": cmap_table(groups_of({**whole_map(file), **codes}), sequences(file))})
 
 
 def with_all_codes(file: bytes, count: int) -> bytes:
@@ -41,7 +41,7 @@ def with_all_codes(file: bytes, count: int) -> bytes:
 def without_code(file: bytes, code: int) -> bytes:
     """The font without a code."""
     glyphs = {other: glyph for other, glyph in whole_map(file).items() if other != code}
-    return with_tables(file, {b"cmap": cmap_table(groups_of(glyphs))})
+    return with_tables(file, {b"cmap": cmap_table(groups_of(glyphs), sequences(file))})
 
 
 def with_outlines(file: bytes, *glyphs: int) -> bytes:

@@ -10,6 +10,7 @@ from typing import Container, Iterable, Mapping, NamedTuple, Optional, Sequence
 
 from font_reading import (KEPT, component_size, mapping, offset, records_of, search_fields, table, table_of, u16,
                           word_sum)
+from sequence_reading import Pair, sequence_subtable, sequences_in
 
 Ranges = Sequence[tuple[int, int]]  # of codes, both ends included
 
@@ -79,6 +80,12 @@ def whole_map(file: bytes) -> dict[int, int]:
     return mapping(table(file, b"cmap"), u16(table(file, b"maxp"), 4))
 
 
+@lru_cache(2)  # of two files that are joined
+def sequences(file: bytes) -> dict[Pair, int]:
+    """The glyph of each variation sequence, by selector and code."""
+    return sequences_in(table(file, b"cmap"), whole_map(file), u16(table(file, b"maxp"), 4))
+
+
 def wanted_map(file: bytes, wanted: Ranges) -> dict[int, int]:
     """The same of the codes that lie in one of the wanted ranges."""
     return {code: glyph for code, glyph in whole_map(file).items()
@@ -108,11 +115,21 @@ def groups_of(glyphs: Mapping[int, int]) -> list[Group]:
     return groups
 
 
-def cmap_table(groups: Sequence[tuple[int, int, int]]) -> bytes:
-    """A `cmap` with two records, 0/4 and 3/10, of one subtable of format 12."""
-    header = struct.pack(">HHHHIHHI", 0, 2, 0, 4, 20, 3, 10, 20)
+def cmap_table(groups: Sequence[tuple[int, int, int]], variants: Optional[Mapping[Pair, int]] = None) -> bytes:
+    """A `cmap` with two records, 0/4 and 3/10, of one subtable of format 12. If there are variation sequences, a third
+    record between them, 0/5, is of a subtable of format 14, which stands after the other one."""
     subtable = struct.pack(">HHIII", 12, 0, 16 + 12 * len(groups), 0, len(groups))
-    return header + subtable + b"".join(struct.pack(">III", *group) for group in groups)
+    subtable += b"".join(struct.pack(">III", *group) for group in groups)
+    if not variants:
+        return struct.pack(">HHHHIHHI", 0, 2, 0, 4, 20, 3, 10, 20) + subtable
+    header = struct.pack(">HHHHIHHIHHI", 0, 3, 0, 4, 28, 0, 5, 28 + len(subtable), 3, 10, 28)
+    return header + subtable + sequence_subtable(variants)
+
+
+def cmap_with_sequences(file: bytes, wanted: Ranges, kept: Container[int]) -> bytes:
+    """The `cmap` of a cut of a font that has the variation sequences of the kept glyphs."""
+    variants = {pair: glyph for pair, glyph in sequences(file).items() if glyph in kept}
+    return cmap_table(groups_of(wanted_map(file, wanted)), variants)
 
 
 def glyf_and_loca(records: Iterable[bytes], kept: Container[int]) -> tuple[bytes, bytes]:

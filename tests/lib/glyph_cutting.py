@@ -3,17 +3,19 @@ variable.
 
 It follows the definition in docs/FORMAT.md. A cut has the maps of the wanted characters. It keeps the glyphs that these
 are mapped to, the wanted glyphs that are there, and what they are composed of. A glyph is there unless its outline and
-its variation data are empty and its own metrics are zero.
+its variation data are empty, its own metrics are zero, and no variation sequence has it.
 """
 from functools import lru_cache
-from typing import AbstractSet, Callable, Container, NamedTuple, Optional, Sequence
+from typing import AbstractSet, Callable, Container, Mapping, NamedTuple, Optional, Sequence
 
-from font_cutting import ALL, Ranges, assembled, kept_glyphs, outlines, padded, ranges_of, wanted_map, whole_map
+from font_cutting import (ALL, Ranges, assembled, kept_glyphs, outlines, padded, ranges_of, sequences, wanted_map,
+                          whole_map)
 from font_joining import file_refusal
 from font_reading import Refusal, record_refusal, tables_of
 from layout_cutting import layout_tables
 from layout_reading import LAYOUT, gsub_of, layout_refusal, linked
 from lean_cutting import METRICS, entry, lean_tables, pairs_in
+from sequence_reading import Pair
 from variable_cutting import variable_tables
 from variable_reading import exact_refusal, own_gsub, variable_refusal, variations_of
 
@@ -38,19 +40,26 @@ def either(*wanted: Wanted) -> Wanted:
 
 class Glyph(NamedTuple):
     """What a font has of a glyph: its outline, which is filled up with zeros to a multiple of 4; its bytes of metrics,
-    without the advance of the last pair, which other glyphs have too; and its variation data."""
+    without the advance of the last pair, which other glyphs have too; its variation data; and its variation
+    sequences."""
 
     outline: bytes
     metrics: bytes
     data: bytes
+    pairs: tuple[Pair, ...]
 
     def is_blank(self) -> bool:
-        return not self.outline and not any(self.metrics) and not self.data
+        return not (self.outline or any(self.metrics) or self.data or self.pairs)
 
 
 def no_data(_: bytes) -> Sequence[bytes]:
     """The variation data of glyphs in kinds of cuts that have none."""
     return ()
+
+
+def no_sequences(_: bytes) -> Mapping[Pair, int]:
+    """The variation sequences in kinds of cuts that have none."""
+    return {}
 
 
 def data_of(file: bytes) -> Sequence[bytes]:
@@ -63,7 +72,8 @@ def data_of(file: bytes) -> Sequence[bytes]:
 
 
 @lru_cache(4)  # of two files that are joined, their join and a font
-def glyphs_in(file: bytes, data_in: Callable[[bytes], Sequence[bytes]]) -> list[Glyph]:
+def glyphs_in(file: bytes, data_in: Callable[[bytes], Sequence[bytes]],
+              pairs_of: Callable[[bytes], Mapping[Pair, int]]) -> list[Glyph]:
     """The glyphs of a font."""
     records, tables = outlines(file), tables_of(file)
     metrics = [b""] * len(records)
@@ -73,17 +83,22 @@ def glyphs_in(file: bytes, data_in: Callable[[bytes], Sequence[bytes]]) -> list[
             place, size = entry(pairs, glyph)
             metrics[glyph] += tables[name][place:place + size]
     data = data_in(file) or [b""] * len(records)
-    return [Glyph(padded(outline), own, part) for outline, own, part in zip(records, metrics, data)]
+    variants: list[list[Pair]] = [[] for _ in records]
+    for pair, glyph in pairs_of(file).items():
+        variants[glyph].append(pair)
+    return [Glyph(padded(outline), own, part, tuple(pairs))
+            for outline, own, part, pairs in zip(records, metrics, data, variants)]
 
 
 class CutKind(NamedTuple):
     """A kind of cuts: its name, the tables of a cut of a font for characters that keeps these glyphs, the variation
-    data of each glyph, the GSUB whose links are followed, and the first refusal of a font that is accepted as such, for
-    cuts and for closures."""
+    data of each glyph, the variation sequences, the GSUB whose links are followed, and the first refusal of a font that
+    is accepted as such, for cuts and for closures."""
 
     name: str
     tables: Callable[[bytes, Ranges, Container[int]], dict[bytes, bytes]]
     data: Callable[[bytes], Sequence[bytes]]
+    sequences: Callable[[bytes], Mapping[Pair, int]]
     gsub: Callable[[bytes], bytes]
     refusal: Callable[[bytes], Optional[Refusal]]
     closing_refusal: Callable[[bytes], Optional[Refusal]]
@@ -93,7 +108,7 @@ class CutKind(NamedTuple):
         return not file_refusal(file) and not self.refusal(file)
 
     def glyphs(self, file: bytes) -> list[Glyph]:
-        return glyphs_in(file, self.data)
+        return glyphs_in(file, self.data, self.sequences)
 
     def there(self, file: bytes) -> frozenset[int]:
         """The glyphs of a font that are there."""
@@ -155,7 +170,7 @@ def layout_exact_refusal(file: bytes) -> Optional[Refusal]:
     return refused
 
 
-LEAN = CutKind("lean", lean_tables, no_data, no_links, accepted, accepted)
-LAYOUT_CUTS = CutKind("layout", layout_tables, no_data, gsub_of, layout_exact_refusal, layout_refusal)
-VARIABLE = CutKind("variable", variable_tables, data_of, own_gsub, exact_refusal, variable_refusal)
+LEAN = CutKind("lean", lean_tables, no_data, no_sequences, no_links, accepted, accepted)
+LAYOUT_CUTS = CutKind("layout", layout_tables, no_data, sequences, gsub_of, layout_exact_refusal, layout_refusal)
+VARIABLE = CutKind("variable", variable_tables, data_of, sequences, own_gsub, exact_refusal, variable_refusal)
 KINDS = (LEAN, LAYOUT_CUTS, VARIABLE)

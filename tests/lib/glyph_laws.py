@@ -51,6 +51,8 @@ def laws_of_cut(cuts: CutKind, font: bytes, wanted: Wanted) -> Iterator[Law]:
     yield "all other records are blank", all(
         glyph.is_blank() for number, glyph in enumerate(after) if number not in parts)
     yield "a cut maps the wanted characters", whole_map(made) == wanted_map(font, wanted.codes)
+    yield "a cut has the variation sequences of the glyphs that it keeps", cuts.sequences(made) == {
+        pair: glyph for pair, glyph in cuts.sequences(font).items() if glyph in kept}
     yield "a cut is accepted and has no finding", cuts.accepts(made) and not findings(made)
     yield "a cut is a cut", cuts.is_cut(made)
     yield "a cut belongs to its font and to itself", cuts.is_cut_of(made, font) and cuts.is_cut_of(made, made)
@@ -144,7 +146,7 @@ def laws_of_font(kind: Kind, font: bytes, sets: Sequence[Wanted]) -> Iterator[La
 
 def names_a_difference(refusal: Optional[Refusal]) -> bool:
     """Whether a join is refused because of what tells two cuts apart."""
-    return refusal is not None and refusal[0] in (21, 22, 23)
+    return refusal is not None and refusal[0] in (21, 22, 23, 29)
 
 
 def laws_of_pair(kind: Kind, first: bytes, second: bytes, above: Sequence[bytes]) -> Iterator[Law]:
@@ -153,6 +155,8 @@ def laws_of_pair(kind: Kind, first: bytes, second: bytes, above: Sequence[bytes]
     if refusal is None:
         made: bytes = join(first, second, kind)
         yield "joins commute", other is None and made == join(second, first, kind)
+        yield "a join has the variation sequences of both files", kind.cuts.sequences(made) == {
+            **kind.cuts.sequences(first), **kind.cuts.sequences(second)}
         yield "a join is a cut of which both files are cuts", kind.cuts.is_cut(made) and all(
             kind.cuts.is_cut_of(file, made) for file in (first, second))
         yield "a join is a cut of all of which both files are", all(kind.cuts.is_cut_of(made, font) for font in above)

@@ -2,14 +2,15 @@
 import random
 from typing import Mapping, NamedTuple, Optional, Sequence
 
-from font_changing import with_tables
-from font_cutting import ALL, assembled, cmap_table, glyf_and_loca, groups_of, outlines, ranges_of
+from font_changing import with_codes, with_tables
+from font_cutting import ALL, assembled, cmap_table, glyf_and_loca, groups_of, outlines, ranges_of, whole_map
 from font_reading import tables_of
-from glyph_cutting import ALL_CODES, EVERYTHING, LAYOUT_CUTS, VARIABLE, CutKind, Wanted
+from glyph_cutting import ALL_CODES, EVERYTHING, LAYOUT_CUTS, LEAN, VARIABLE, CutKind, Wanted
 from layout_making import numbers, random_layout, spoiled, with_layout
 from lean_cutting import METRICS, entry, pairs_in
 from random_fonts import CODES, random_font
 from random_joins import damaged, random_change
+from sequence_making import with_other_pairs, with_random_sequences
 from variable_making import accepted_font, fvar, gvar, other_variations, some_axes
 from variable_reading import variable_refusal
 from worked_cuts import base6_tables
@@ -97,16 +98,23 @@ def font_with_variations(chance: random.Random) -> bytes:
 
 
 def font_for(chance: random.Random, kind: CutKind) -> bytes:
-    """A small font that is accepted for cuts of a kind, in which glyphs are blank, or have metrics alone."""
+    """A small font that is accepted for cuts of a kind, in which glyphs are blank, or have metrics or variation
+    sequences alone."""
     font = {LAYOUT_CUTS.name: font_with_layout, VARIABLE.name: font_with_variations}.get(kind.name, random_font)(chance)
     font = with_blanks(chance, kind, font, len(outlines(font)))
     for _ in range(chance.randint(0, 3)):
         font = with_space(chance, font)
-    return font
+    return with_random_sequences(chance, font)
 
 
 def another_version(chance: random.Random, kind: CutKind, font: bytes) -> bytes:
-    """A font in which something may be otherwise: a mapping, an outline, metrics, a table, or what is blank."""
+    """A font in which something may be otherwise: a mapping, an outline, metrics, a table, variation sequences, or what
+    is blank."""
+    codes, count = sorted(whole_map(font)), len(outlines(font))
+    if codes and count > 1 and chance.random() < 0.1:
+        return bytes(with_codes(font, {chance.choice(codes): chance.randrange(1, count)}))
+    if kind.name != LEAN.name and chance.random() < 0.3:
+        return with_other_pairs(chance, font)
     if chance.random() < 0.3:
         return with_blanks(chance, kind, font, 1)
     if chance.random() < 0.2:

@@ -7,9 +7,10 @@
  * given twice is the same; the size that is told is that of the cut; a room that is too small stays as it was; a cut
  * is a cut, in today's form, and of its font; joins of cuts are the cut for the union of their sets, in any order
  * and grouping and with any of them twice; the cut of a cut is the cut of the font; a join of files that nobody cut
- * is refused with the first reason that there is, or has both as its cuts and lies in each font that has both.
- * Between kinds: a lean cut is that of each other cut of the font; without tables of layout a layout cut is the lean
- * one, and without those of variations too a variable cut is; where nothing is cleared in the tables of layout, a
+ * is refused with the first reason that there is, or has both as its cuts and lies in each font that has both; and
+ * layout and variable cuts have the variation sequences of the glyphs that they keep, and other cuts none.
+ * Between kinds: a lean cut is that of each other cut of the font; without tables of layout and variation sequences a
+ * layout cut is the lean one, and without tables of variations too a variable cut is; where nothing is cleared in the tables of layout, a
  * layout cut is that of the variable cut. Of closures: a cut for codes is the cut for these and for what links lead
  * to. A case that breaks a law is printed, with the law and the font. The last lines count the cases, the laws that
  * held of each kind, and those that did not. */
@@ -20,6 +21,10 @@
 #include <inttypes.h>
 
 enum { GUARD = 64, FILL = 0xA5, SETS = 3, RANGES = 8, NUMBERS = 12, KINDS = 4, ALL_NUMBERS = 65536 };
+/* The selectors that small fonts have, as texts, how many characters before them, from which on, and how many pairs
+ * are looked at in a cut. */
+enum { SELECTORS = 3, BASES = 28, FIRST_BASE = 0x3E, PAIRS = 6 };
+static const char *const selectors[SELECTORS] = {"\xEF\xB8\x80", "\xEF\xB8\x81", "\xF3\xA0\x84\x80"};
 static const char *const kind_names[KINDS] = {"full", "lean", "layout", "variable"};
 static const fontcut_range every_code = {0, 0x10FFFF};
 static const fontcut_answer done = {FONTCUT_DONE, 0, 0, 0};
@@ -41,7 +46,7 @@ typedef struct font {
 } font;
 
 typedef struct counts {
-    uint64_t held[KINDS], broken, accepted, refused, refused_of[KINDS], linked, varied, joined, differing;
+    uint64_t held[KINDS], broken, accepted, refused, refused_of[KINDS], linked, varied, sequenced, joined, differing;
 } counts;
 
 static counts seen;
@@ -238,6 +243,35 @@ static int has_bad_links(fontcut_kind kind, bytes file)
     return cut_into(kind, file, &nothing, NULL, 0).status == FONTCUT_BAD_LAYOUT;
 }
 
+/* The glyph that an accepted file has for a text of one variation sequence, or 0. */
+static uint16_t variant_in(bytes file, const char *text)
+{
+    uint16_t glyph = 0;
+    fontcut_variants(FONTCUT_CHECKED, file.at, file.length, (const uint8_t *)text, strlen(text), &glyph, 1);
+    return glyph;
+}
+
+/* The law of some variation sequences of a font, of which a cut is given. */
+static void ask_sequences(fontcut_kind kind, bytes of, bytes made)
+{
+    size_t length;
+    uint16_t *kept = room_of(ALL_NUMBERS * sizeof *kept);
+    size_t count = fontcut_kept(kind, made.at, made.length, kept, ALL_NUMBERS).size;
+    int is_so = 1;
+    for (int left = sequence_record(of, 0) ? PAIRS : 1; left; left--) {
+        char text[8] = {(char)(FIRST_BASE + chance(BASES))};
+        strcat(text, selectors[chance(SELECTORS)]);
+        uint16_t glyph = variant_in(of, text), wanted = 0;
+        for (size_t i = 0; i < count && kind >= FONTCUT_LAYOUT; i++)
+            wanted = kept[i] == glyph ? glyph : wanted;
+        is_so = is_so && variant_in(made, text) == wanted;
+    }
+    holds(is_so, kind, "a cut has the variation sequences of the glyphs that it keeps, if it has any");
+    sequences_at(made, &length);
+    seen.sequenced += length > 0;
+    free(kept);
+}
+
 /* The request for the codes of a set and for other glyphs, without links. */
 static fontcut_request request_with(fontcut_kind kind, const set *wanted, const uint16_t *glyphs, size_t count)
 {
@@ -298,6 +332,7 @@ static void ask_font(fontcut_kind kind, bytes of, const set *sets, bytes *cuts)
         holds(refusal_of(kind, cuts[i]).status == FONTCUT_DONE, kind, "a cut is accepted");
         holds(form_of(kind, cuts[i]) == FONTCUT_CURRENT_CUT, kind, "a cut is a cut in today's form");
         holds(is_cut_of(kind, cuts[i], of), kind, "a cut is a cut of its font");
+        ask_sequences(kind, of, cuts[i]);
     }
     if (kind != FONTCUT_FULL && !sets[0].is_exact)
         ask_closure(kind, of, sets[0], cuts[0]);
@@ -341,6 +376,52 @@ static int data_differ(bytes x, bytes y, uint16_t glyph)
     return lengths[0] != lengths[1] || memcmp(x.at + in_x, y.at + in_y, lengths[0]) != 0;
 }
 
+/* The variation sequences of a cut, each of which is a mapping: selector, code and glyph in one number. There is room
+ * for all of them, which the caller frees. */
+static uint64_t *sequences_of(bytes cut, size_t *count)
+{
+    size_t length, table = sequences_at(cut, &length), records = length ? number_at(cut, table + 6, 4) : 0;
+    uint64_t *found = room_of(length / 5 * sizeof *found);
+    *count = 0;
+    for (size_t i = 0; i < records; i++) {
+        size_t record = table + 10 + 11 * i, list = table + number_at(cut, record + 7, 4);
+        uint64_t selector = number_at(cut, record, 3);
+        for (size_t item = 0; item < number_at(cut, list, 4); item++) {
+            size_t at = list + 4 + 5 * item;
+            found[(*count)++] = selector << 40 | (uint64_t)number_at(cut, at, 3) << 16 | number_at(cut, at + 3, 2);
+        }
+    }
+    return found;
+}
+
+/* How many of some sequences of a glyph others do not have. */
+static size_t lacking(const uint64_t *some, size_t count, const uint64_t *others, size_t other_count, uint16_t glyph)
+{
+    size_t found = 0;
+    for (size_t i = 0; i < count; i++) {
+        size_t at = 0;
+        while (at < other_count && others[at] != some[i])
+            at++;
+        found += (uint16_t)some[i] == glyph && at == other_count;
+    }
+    return found;
+}
+
+/* Whether two cuts have other variation sequences of a glyph, or where there is none a sequence with two glyphs. */
+static int sequences_differ(bytes x, bytes y, uint16_t glyph)
+{
+    size_t counts[2], clashes = 0;
+    uint64_t *in_x = sequences_of(x, counts), *in_y = sequences_of(y, counts + 1);
+    for (size_t i = 0; i < counts[0]; i++)
+        for (size_t k = 0; k < counts[1]; k++)
+            clashes += in_x[i] >> 16 == in_y[k] >> 16 && in_x[i] != in_y[k];
+    size_t differing = lacking(in_x, counts[0], in_y, counts[1], glyph)
+                     + lacking(in_y, counts[1], in_x, counts[0], glyph);
+    free(in_x);
+    free(in_y);
+    return (glyph ? differing : clashes) > 0;
+}
+
 /* Whether two fonts, which are accepted, have another outline of a glyph, or other metrics. */
 static int glyphs_differ(bytes x, bytes y, uint16_t glyph)
 {
@@ -361,8 +442,11 @@ static int do_differ(fontcut_kind kind, bytes x, bytes y, fontcut_answer refusal
         char tag[TAG + 1] = {(char)(named >> 24), (char)(named >> 16), (char)(named >> 8), (char)named, 0};
         return tables_differ(x, y, tag) || (memcmp(tag + 1, "mtx", 3) == 0 && tables_differ(x, y, "maxp"));
     }
+    if (refusal.status == FONTCUT_TABLE_TOO_LONG)
+        return named == 0x636D6170 /* cmap */ && kind >= FONTCUT_LAYOUT && sequences_differ(x, y, 0);
     if (refusal.status == FONTCUT_DIFFERENT_GLYPH)
         return glyphs_differ(x, y, (uint16_t)named)
+            || (kind >= FONTCUT_LAYOUT && named && sequences_differ(x, y, (uint16_t)named))
             || (kind == FONTCUT_VARIABLE && data_differ(x, y, (uint16_t)named));
     uint16_t glyphs[2] = {0, 0};
     fontcut_glyphs(0, x.at, x.length, &named, 1, glyphs, 1);
@@ -504,14 +588,15 @@ static void ask_exact_beside_lean(fontcut_kind kind, bytes of, set wanted)
     let_go(made.at);
 }
 
-/* The law of a font without the tables that cuts of a kind keep and lean cuts do not: without the first of those of
- * layout and of variations. It may be refused where another table lies over the directory. */
+/* The law of a font without what cuts of a kind keep and lean cuts do not: without the first of the tables of layout
+ * and of variations, and without variation sequences. It may be refused where another table lies over the directory. */
 static void ask_bare(fontcut_kind kind, bytes of, set wanted, size_t tables)
 {
     bytes bare = without_table(of, NULL, tables);
+    hide_sequences(bare);
     bytes lean = cut_of(FONTCUT_LEAN, bare, wanted), made = cut_of(kind, bare, wanted);
     holds(lean.at ? same_bytes(lean, made) : !made.at, kind,
-          "without the tables that it keeps beside those of a lean cut a cut is the lean one");
+          "without what it keeps beside what a lean cut keeps a cut is the lean one");
     let_go(lean.at);
     let_go(made.at);
     free(bare.at);
@@ -693,8 +778,9 @@ int main(int count, char **words)
     }
     printf("%" PRIu64 " accepted, %" PRIu64 " of them refused for layout cuts, %" PRIu64 " for variable cuts, %" PRIu64
            " refused, %" PRIu64 " with glyphs that links lead to, %" PRIu64 " with variation data, %" PRIu64
-           " other joins, %" PRIu64 " with a difference\n", seen.accepted, seen.refused_of[FONTCUT_LAYOUT],
-           seen.refused_of[FONTCUT_VARIABLE], seen.refused, seen.linked, seen.varied, seen.joined, seen.differing);
+           " with variation sequences, %" PRIu64 " other joins, %" PRIu64 " with a difference\n", seen.accepted,
+           seen.refused_of[FONTCUT_LAYOUT], seen.refused_of[FONTCUT_VARIABLE], seen.refused, seen.linked, seen.varied,
+           seen.sequenced, seen.joined, seen.differing);
     printf("%" PRIu64 " of full cuts, %" PRIu64 " of lean cuts, %" PRIu64 " of layout cuts, %" PRIu64
            " of variable cuts held, %" PRIu64 " broken\n", seen.held[FONTCUT_FULL], seen.held[FONTCUT_LEAN],
            seen.held[FONTCUT_LAYOUT], seen.held[FONTCUT_VARIABLE], seen.broken);

@@ -1,11 +1,11 @@
-"""A small maker of layout cuts, apart from the program: lean cuts that have the tables of layout too, and all glyphs
-that shaping may give for the wanted characters.
+"""A small maker of layout cuts, apart from the program: lean cuts that have the tables of layout and the variation
+sequences too, and all glyphs that shaping may give for the wanted characters.
 
 It follows the definition of layout cuts in crates/font_theory/specs/Kinds.antt.
 """
 from typing import Container, Iterable, Optional
 
-from font_cutting import Ranges, assembled, kept_glyphs, outlines, wanted_map
+from font_cutting import Ranges, assembled, cmap_with_sequences, kept_glyphs, outlines, wanted_map
 from font_reading import tables_of
 from layout_reading import LAYOUT, cleaned, gsub_of, roots
 from lean_cutting import lean_tables
@@ -28,7 +28,8 @@ def layout_tables(file: bytes, wanted: Ranges, kept: Optional[Container[int]] = 
     given."""
     if kept is None:
         kept = layout_kept(file, wanted_map(file, wanted).values())
-    return {**lean_tables(file, wanted, kept), **cleaned_tables(file)}
+    tables = {**lean_tables(file, wanted, kept), **cleaned_tables(file)}
+    return {**tables, b"cmap": cmap_with_sequences(file, wanted, kept)}
 
 
 def layout_cut(file: bytes, wanted: Ranges) -> bytes:

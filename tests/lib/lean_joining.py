@@ -3,7 +3,7 @@ writes none.
 
 It follows docs/FORMAT.md and the definition of lean cuts: of `hmtx` and `vmtx` two files share what belongs to no
 single glyph, and what belongs to a glyph is compared and united with its outline. Another kind of cut that is joined
-in the same way brings a `Kind` of its own.
+in the same way brings a `Kind` of its own, and may have variation sequences, which belong to their glyphs.
 """
 from typing import Callable, Iterable, NamedTuple, Optional, Sequence
 
@@ -13,6 +13,7 @@ from font_reading import KEPT, MAX_FILE, Refusal, tables_of, tag_text
 import glyph_cutting
 from glyph_cutting import CutKind, Glyph
 from lean_cutting import METRICS, cleared, entry, pairs_in, without_names
+from sequence_reading import MOST_PAIRS
 
 
 def no_tables(_: bytes, __: bytes) -> dict[bytes, bytes]:
@@ -45,6 +46,13 @@ class Kind(NamedTuple):
         found: Optional[int] = different(self.kept(first), self.kept(second))
         return found
 
+    def has_room(self, first: bytes, second: bytes) -> bool:
+        """Whether the variation sequences of both cuts fit into one `cmap`: none has two glyphs, and there are not too
+        many."""
+        here, there = self.cuts.sequences(first), self.cuts.sequences(second)
+        return len(here.keys() | there.keys()) <= MOST_PAIRS and all(
+            here[pair] == there[pair] for pair in here.keys() & there.keys())
+
 
 def shared(file: bytes) -> dict[bytes, bytes]:
     """By tag what two lean cuts of one font have in common of their copied tables."""
@@ -75,7 +83,9 @@ def difference_refusal(first: bytes, second: bytes, kind: Kind) -> Optional[Refu
     if code is not None:
         return 22, f"different mapping U+{code:04X}"
     glyph = kind.different_glyph(first, second)
-    return None if glyph is None else (23, f"different glyph {glyph}")
+    if glyph is not None:
+        return 23, f"different glyph {glyph}"
+    return None if kind.has_room(first, second) else (29, "table too long cmap")
 
 
 def with_metrics(table: bytes, other: bytes, pairs: int, glyphs: Iterable[int]) -> bytes:
@@ -94,7 +104,8 @@ def joined_tables(first: bytes, second: bytes, kind: Kind) -> dict[bytes, bytes]
         if name in tables:
             pairs = pairs_in(tables, header, name, glyphs)
             tables[name] = with_metrics(tables[name], others[name], pairs, kind.kept(second))
-    tables[b"cmap"] = cmap_table(groups_of({**whole_map(first), **whole_map(second)}))
+    tables[b"cmap"] = cmap_table(groups_of({**whole_map(first), **whole_map(second)}),
+                                 {**kind.cuts.sequences(first), **kind.cuts.sequences(second)})
     records = {number: glyph.outline for file in (first, second) for number, glyph in kind.kept(file).items()}
     tables[b"glyf"], tables[b"loca"] = glyf_and_loca([records.get(glyph, b"") for glyph in range(glyphs)],
                                                      records.keys())

@@ -108,3 +108,7 @@ TEXTS = [
     "ꓐꓲ ꓜꓴ ꓡꓲ ꓢꓳ ꓫꓵꓽ",
     "ᚠᚢᚦᚨᚱᚲ ᚷᚹᚺᚾᛁᛃ ᛇᛈᛉᛊᛏᛒ",
 ]
+
+# Names of places and people in Japan, of which some characters are written as variants: variation sequences.
+NAMES = ["葛\U000e0100城市 辻\U000e0100さん 渡邉\U000e0102", "葛\U000e0101飾区 辻\U000e0101本 芦\U000e0100屋市",
+         "祇\U000e0100園 榊\U000e0100原 樋\U000e0100口", "逢\U000e0101坂 飴\U000e0101屋 鯖\U000e0101江市"]

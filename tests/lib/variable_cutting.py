@@ -8,7 +8,7 @@ import struct
 from itertools import accumulate
 from typing import Container, Iterable, Optional
 
-from font_cutting import Ranges, assembled, kept_glyphs, outlines, wanted_map
+from font_cutting import Ranges, assembled, cmap_with_sequences, kept_glyphs, outlines, wanted_map
 from font_reading import tables_of
 from layout_reading import roots
 from lean_cutting import lean_tables
@@ -45,6 +45,7 @@ def variable_tables(file: bytes, wanted: Ranges, kept: Optional[Container[int]] 
     if kept is None:
         kept = variable_kept(file, wanted_map(file, wanted).values())
     tables = {**lean_tables(file, wanted, kept), **copied_tables(file)}
+    tables[b"cmap"] = cmap_with_sequences(file, wanted, kept)
     if b"gvar" in tables_of(file):
         found = variations_of(file)
         assert found is not None, "the font is refused"

@@ -1,4 +1,4 @@
-// Checks of the package in node that need no native library: node web_checks.mjs PACKAGE FONT OTHER_FONT
+// Checks of the package in node that need no native library: node web_checks.mjs PACKAGE FONT OTHER_FONT VARIED_FONT
 //
 // It prints each check as a line of JSON: its name, and what was thrown, or null.
 import assert from 'node:assert/strict';
@@ -6,10 +6,11 @@ import { readFile } from 'node:fs/promises';
 import { pathToFileURL } from 'node:url';
 import { Worker } from 'node:worker_threads';
 
-const [place, path, otherPath] = process.argv.slice(2);
+const [place, ...paths] = process.argv.slice(2);
 const fontcut = await import(pathToFileURL(`${place}/fontcut.js`));
 const { GrowingFont } = await import(pathToFileURL(`${place}/growing.js`));
-const [bytes, otherBytes] = await Promise.all([readFile(path), readFile(otherPath)]);
+// The last one has variation sequences: of A and U+FE00, and of B and U+E0100, which has the glyph 5.
+const [bytes, otherBytes, varied] = await Promise.all(paths.map((path) => readFile(path)));
 const cutFor = (text, kind = 'lean', font = bytes) => fontcut.subset(font, { text, kind });
 const freed = { message: 'fontcut: the font was freed' };
 
@@ -265,7 +266,8 @@ class Page {
         if (this.fails === 'status') {
             return new Response('', { status: 503 });
         }
-        const isWhole = this.fails === 'no cut', wanted = { unicodes: query.get('unicodes'), kind };
+        const wanted = { unicodes: query.get('unicodes') ?? [], text: query.get('text') ?? '', kind };
+        const isWhole = this.fails === 'no cut';
         return new Response(isWhole ? this.font : fontcut.subset(this.font, wanted));
     }
 
@@ -374,13 +376,54 @@ const growing = {
         }
     },
 
+    'a font of layout or variable cuts grows by variation sequences': async () => {
+        const text = 'B\u{E0100}A\uFE00B\u{E0100}', wanted = { text: `AB ${text}` };
+        for (const kind of ['layout', 'variable', 'lean']) {
+            const page = new Page(varied), font = new GrowingFont('Grown', '/font.ttf', { kind });
+            await font.add('AB');
+            await font.add(text);
+            await font.add('B\u{E0100}');
+            const isShaped = kind !== 'lean', asked = isShaped ? '&text=B%F3%A0%84%80A%EF%B8%80' : '';
+            // A selector is a mark, for which a shaper may take a dotted circle.
+            const codes = isShaped ? '25CC,FE00,E0100' : 'FE00,E0100';
+            page.shows(fontcut.subset(varied, { ...wanted, kind }));
+            assert.equal(page.asked.length, 2);
+            assert.equal(page.asked[1], `/font.ttf?unicodes=${codes}${asked}&kind=${kind}`);
+            assert.equal(fontcut.keptGlyphs(font.bytes, { kind }).includes(5), isShaped);
+        }
+    },
+
+    'many variation sequences are fetched in several parts': async () => {
+        const page = new Page(varied), font = new GrowingFont('Grown', '/font.ttf', { kind: 'layout' });
+        const letters = Array.from({ length: 130 }, (_, i) => String.fromCodePoint(0x20000 + i, 0xE0100));
+        await font.add(letters.join(''));
+        assert.equal(page.asked.length, 3);
+        assert.ok(page.asked.every((url) => url.length < 8000));
+        const asked = page.asked.map((url) => new URL(url, 'http://localhost').searchParams.get('text'));
+        assert.equal(asked.join(''), letters.join(''));
+    },
+
+    'a text brings its variation sequences to layout and variable cuts': () => {
+        assert.deepEqual([...fontcut.variants(varied, 'A\uFE00B\u{E0100}A\u{E0100}')], [1, 5]);
+        for (const [kind, has] of [['full', false], ['lean', false], ['layout', true], ['variable', true]]) {
+            for (const exactly of [false, true]) {
+                const text = 'B\u{E0100}', cut = fontcut.subset(varied, { text, kind, exactly });
+                assert.equal(fontcut.keptGlyphs(cut, { kind }).includes(5), has);
+                assert.deepEqual(fontcut.cuts(varied, [{ text }], { kind, exactly }), [cut]);
+            }
+        }
+        assert.ok([...fontcut.closure(varied, { text: 'B\u{E0100}' })].includes(5));
+        const cut = fontcut.subset(varied, { text: 'B\u{E0100}', kind: 'layout' });
+        assert.deepEqual([...fontcut.variants(cut, 'B\u{E0100}A\uFE00')], [5]);
+    },
+
     'lone surrogates are passed over by a growing font alone': async () => {
         for (const kind of ['lean', 'layout', 'variable']) {
             const page = new Page(), font = new GrowingFont('Grown', '/font.ttf', { kind });
             await font.add('\uD800 \uDC00a');
             page.shows(cutFor(' a', kind));
         }
-        for (const read of [fontcut.needed, fontcut.ranges]) {
+        for (const read of [fontcut.needed, fontcut.ranges, (text) => fontcut.variants(bytes, text)]) {
             assert.throws(() => read('a\uDC00'),
                 { name: 'RangeError', message: 'fontcut: item 1 is the lone surrogate U+DC00, which is no character' });
         }

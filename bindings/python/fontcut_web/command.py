@@ -13,7 +13,7 @@ import fontcut
 from fontcut_output import CommandParser, Progress, print_line, read, reason, tell_of_others, write
 
 from . import texts, use
-from .common import DISPLAYS, Missing, MissingProgram, Refused, UsageError, need, part
+from .common import DISPLAYS, SHAPED, Missing, MissingProgram, Refused, UsageError, need, part
 from .inputs import dropped_tables
 from .presets import PARTS, SIZES, languages, web
 from .replaced import check_name, check_read, check_unpacked, check_whole, check_written
@@ -81,12 +81,12 @@ Writes a cut of each FONT for each slice to DIR, as FONT-SLICE.ttf. A browser lo
 of its characters. A character is only in the first slice that names it; a slice of which the font maps no
 character is not written.
 
-SLICES is a preset, or a file with a name and ranges in each line, as fontcut slice reads it. The option may be
-repeated, and then adds slices. The presets are
+SLICES is a preset, or a file with a name and ranges in each line, as fontcut slice reads it, and with variation
+sequences, as U+845B+E0100, for layout and variable cuts. Several of these options add up. The presets are
 {_PRESETS}
   equal:COUNT        COUNT slices of equal size of what is left; at most {MOST_EQUAL}
-  pages:COUNT        the same, of the characters by how often they stand in pages: the FONTs that end in .html, .htm,
-                     .xhtml or .txt
+  pages:COUNT        the same, of the characters by how often they stand in pages, and with the variation sequences of
+                     these: the FONTs that end in .html, .htm, .xhtml or .txt
 The characters of a language are in the order of their use by Unicode's Unihan. With :{SIZES[0]}, the default, a page
 loads 2 to 12 slices, most of them small; with :{SIZES[1]}, as in {languages()[0]}:{SIZES[1]}, 4 to 7 larger ones.
 --order FILE puts the characters of a text first, in their order there. In any order a page loads ten times the bytes
@@ -114,8 +114,8 @@ _TEXT = """\
 Writes the cut of FONT for the characters that HTML pages draw to OUT: their text without scripts, styles and titles,
 and the attributes alt and placeholder, label in lists, and value in fields and on buttons. If OUT ends in .woff2, it is
 WOFF2. What browsers write for style sheets is wanted too: numbers of lists, content, quotation marks, capitals. What a
-script adds is not known: add it with --text. Layout and variable cuts also have the characters that a shaper takes for
-these, as with fontcut subset --layout.
+script adds is not known: add it with --text. Layout and variable cuts also have the variation sequences of the text,
+and the characters that a shaper takes for it, as with fontcut subset --layout.
 
 With --shaped, hb-shape of HarfBuzz shapes the text, and the cut has just the glyphs that come: it is exact, and much
 smaller. Lines, words and all pieces of words are shaped, with and without ligatures, in each language that a page
@@ -193,8 +193,8 @@ _DECODE = """\
 Writes the font in a WOFF or WOFF2 file to OUT. fontcut itself does not read such files.
 
 A cut that went through WOFF is the same file again. A cut that went through WOFF2 is no longer a cut, because WOFF2
-encodes outlines anew. --lean, --layout, --variable and --full cut it anew for all its characters: such cuts of one
-kind join with each other, and not with cuts that were never packed.
+encodes outlines anew. --lean, --layout, --variable and --full cut it anew for all its characters, layout and variable
+cuts for all its glyphs too: such cuts of one kind join with each other, and not with cuts that were never packed.
 
 If OUT is another whole font, nothing is written without --force.
 """
@@ -227,7 +227,7 @@ def _run_decode(given: argparse.Namespace) -> None:
     data = read(given.file)
     try:
         whole = part("woff").unpacked(data)
-        font = fontcut.cut(whole, fontcut.codes(whole), kind=given.kind) if given.kind else whole
+        font = _cut_anew(whole, given.kind) if given.kind else whole
         name = _name_of(font)
     except (fontcut.Refused, Refused) as refusal:
         raise Refused(f"{given.file}: {refusal}") from refusal
@@ -235,6 +235,11 @@ def _run_decode(given: argparse.Namespace) -> None:
         check_unpacked(given.out, [whole, font])
     write(given.out, font)
     print_line(f"{given.out}: {_joins(name, data[:4] == b'wOF2')}")
+
+
+def _cut_anew(font: bytes, kind: str) -> bytes:
+    """The cut of a font of a kind for all its characters, and for all its glyphs where it keeps variation sequences."""
+    return fontcut.cut(font, fontcut.codes(font), kind=kind, gids="all" if kind in SHAPED else None)
 
 
 def _name_of(font: bytes) -> Optional[str]:

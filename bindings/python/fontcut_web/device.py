@@ -60,12 +60,14 @@ def _joined(paths: Sequence[str], fonts: Sequence[bytes]) -> Tuple[str, bytes]:
 
 
 def _map_for_all(font: TTFont) -> None:
-    """Gives a font a cmap of format 4, which all programs read, and keeps that of format 12 if it has more."""
+    """Gives a font a cmap of format 4, which all programs read, and keeps that of format 12 if it has more, and that of
+    variation sequences."""
     mapped = font.getBestCmap() or {}
     short = CmapSubtable.newSubtable(4)
     short.platformID, short.platEncID, short.language = 3, 1, 0
     short.cmap = {code: name for code, name in mapped.items() if code <= _LAST_OF_FORMAT_4}
-    font["cmap"].tables = [short, *(font["cmap"].tables if len(short.cmap) < len(mapped) else [])]
+    is_more = len(short.cmap) < len(mapped)
+    font["cmap"].tables = [short, *(table for table in font["cmap"].tables if is_more or table.format == 14)]
 
 
 def _renumbered(cut: bytes, kind: str, hinting: bool, outline: bool) -> _Made:

@@ -14,7 +14,6 @@ from .common import LAYOUT_TABLES, Refused
 from .faces import axes_of
 from .inputs import file_in
 from .preparing import PrepareOptions
-from .sequences import without_selectors
 from .shaping import Setting, place_of
 
 
@@ -60,10 +59,9 @@ def _places(cut: bytes, kind: str) -> List[Mapping[str, float]]:
 def check(path: str, font: fontcut.Font, cut: bytes, kind: str, texts: Sequence[str],
           sets: Sequence[Tuple[str, ...]] = ((),)) -> None:
     """Raises `Refused` where a cut of a kind of what was prepared of the font in a file shapes texts otherwise than the
-    font does, with any of these sets of features. Nothing is tried where texts cannot be shaped."""
-    # Cuts drop variation sequences, which is said elsewhere.
-    plain = ["".join(map(chr, without_selectors(map(ord, text)))) for text in texts]
-    texts = list(filter(None, map(str.strip, plain)))
+    font does, with any of these sets of features; selectors stay in them, for these kinds keep variation sequences.
+    Nothing is tried where texts cannot be shaped."""
+    texts = list(filter(None, map(str.strip, texts)))
     if not shaping.is_there() or not texts:
         return
     with tempfile.TemporaryDirectory() as folder:

@@ -12,6 +12,7 @@ from fontcut_output import read
 
 from . import presets
 from .common import UsageError, codes_in
+from .sequences import named_by
 
 # All subsets of Google Fonts, and the presets of all scripts that a font has.
 WEB, AUTO = "web", "auto"
@@ -34,18 +35,22 @@ _OTHERS, REST = "others", "rest"
 
 
 class Slice(NamedTuple):
-    """A slice of a font: its name, and the characters of the font that it has, in ascending order."""
+    """A slice of a font: its name, the characters of the font that it has, in ascending order, and the variation
+    sequences of these that it is to draw."""
 
     name: str
     codes: List[int]
+    sequences: Sequence[str] = ()
 
 
 class Listed(NamedTuple):
-    """A slice of these ranges, which are in ascending order, and the file that has it, if that is no preset."""
+    """A slice of these ranges, which are in ascending order, and the file that has it, if that is no preset, with the
+    variation sequences that its line names."""
 
     name: str
     ranges: List[fontcut.Range]
     path: str = ""
+    sequences: Sequence[str] = ()
 
     def names(self) -> List[str]:
         return [self.name]
@@ -58,10 +63,12 @@ class Listed(NamedTuple):
 
 
 class Equal(NamedTuple):
-    """As many slices of what is left, which have as many characters each: in an order, and then by their codes."""
+    """As many slices of what is left, which have as many characters each: in an order, and then by their codes; with
+    the variation sequences of the pages by which they are ordered."""
 
     parts: int
     order: Sequence[int] = ()
+    sequences: Sequence[str] = ()
 
     def names(self) -> List[str]:
         return _numbered("", self.parts)
@@ -212,8 +219,9 @@ def _lines(path: str) -> Iterator[Listed]:
         if name and not _NAME.fullmatch(name):
             raise UsageError(f"{path}: line {number}: bad name {name[:40]!r}: write letters of ASCII, digits and . _ -")
         if name:
+            words, sequences = named_by(words)
             try:
-                yield Listed(name, fontcut.ranges(words), path)
+                yield Listed(name, fontcut.ranges(words), path, sequences)
             except ValueError as error:
                 raise UsageError(f"{path}: line {number}: {error}") from error
 
@@ -247,6 +255,19 @@ def divided(codes: Sequence[int], wanted: Iterable[Asked], whole: Sequence[Set[i
         inside = {code for each in made for code in each.codes}
         left = [code for code in left if code not in inside]
     return found
+
+
+def sequences_of(wanted: Iterable[Asked]) -> List[str]:
+    """The variation sequences that slices name, each once."""
+    return sorted({pair for one in wanted if isinstance(one, (Listed, Equal)) for pair in one.sequences})
+
+
+def with_sequences(slices: Iterable[Slice], sequences: Iterable[str]) -> List[Slice]:
+    """Slices with variation sequences: browsers load the slice that has the character of a sequence."""
+    by_code: Dict[int, List[str]] = {}
+    for pair in sequences:
+        by_code.setdefault(ord(pair[0]), []).append(pair)
+    return [one._replace(sequences=[pair for code in one.codes for pair in by_code.get(code, ())]) for one in slices]
 
 
 def empty_names(wanted: Iterable[Asked], slices: Iterable[Slice]) -> List[str]:

@@ -217,11 +217,13 @@ def _manner(lists: Mapping[bool, Sequence[Setting]]) -> str:
 
 
 def _closed(font: fontcut.Font, page: Shown, kind: str) -> Set[int]:
-    """The glyphs that may be drawn in blocks of a page of which not all is known: all that their characters lead to."""
+    """The glyphs that may be drawn in blocks of a page of which not all is known: all that their characters and their
+    variation sequences lead to."""
     every = {frozenset(mapped(font, letters_of(page._replace(text=text)))) for text in page.open}
     widest = [one for one in every if not any(one < other for other in every)]
     widest = widest if len(widest) <= _MOST_OPEN else [frozenset().union(*widest)]
-    return {glyph for one in widest for glyph in fontcut.closure(font, sorted(one), kind=kind)}
+    drawn = fontcut.variants(font, "\0".join(page.open))
+    return {glyph for one in widest for glyph in fontcut.closure(font, sorted(one), drawn, kind=kind)}
 
 
 class Exact(NamedTuple):

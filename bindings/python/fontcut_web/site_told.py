@@ -155,5 +155,5 @@ def told(settings: Settings, modes: Modes, found: Sequence[Tuple[Base, Sequence[
     yield from _open(modes, found)
     yield from _colours(shown)
     for one in shown:
-        its_fonts = [(os.path.basename(base.settings.file), base.whole.data) for base in one.fonts]
+        its_fonts = [(os.path.basename(base.settings.file), base.whole, base.kind) for base in one.fonts]
         yield from (f"{one.page.name}: {line}" for line in sequences.told(one.page.shown.text, its_fonts))

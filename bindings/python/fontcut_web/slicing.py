@@ -8,14 +8,15 @@ from typing import Callable, Dict, Iterator, List, Mapping, NamedTuple, Optional
 import fontcut
 from fontcut_output import Progress, write
 
-from . import fitted
+from . import fitted, sequences
 from .common import SHAPED, Refused
 from .faces import Face, face_of, is_variable, varying
 from .inputs import font_of, refusing
 from .notices import ShapedScript, dropped, shaped_scripts
 from .prepare import is_prepared, samples
 from .processes import side_by_side
-from .sets import REST, Asked, Slice, codes_of, divided, empty_names, left_out, range_words, unsliced
+from .sets import (REST, Asked, Slice, codes_of, divided, empty_names, left_out, range_words, sequences_of, unsliced,
+                   with_sequences)
 from .sheet import Placed, Styled, page, preloads, style_sheet
 from .woff import compressed_size, packed, without
 
@@ -26,6 +27,8 @@ _NAMED = 5
 _AT_ONCE = 16
 # A font whose layout tables have so many bytes at most, prepared for all slices, is not prepared for each of them.
 _SHARED = 4096
+# What browsers turn on by themselves in numbers: of lists, and upright ones in vertical lines.
+_NUMBERS = "hwid", "qwid", "tnum", "twid"
 
 
 class Font(NamedTuple):
@@ -130,12 +133,14 @@ def _opened(path: str, asked: Sequence[Asked], how: SliceOptions) -> Font:
         raise Refused(lost_words(path, lost))
     if how.rest and rest:
         slices, rest = [*slices, Slice(REST, rest)], []
-    empty = empty_names(asked, slices)
+    slices, empty = with_sequences(slices, sequences_of(asked)), empty_names(asked, slices)
     notices = [f"{path}: slices that are left without a character are not written: {', '.join(empty)}"
                ] if empty else []
     notices += [*([lost_words(path, lost)] if lost else []), *([left_words(path, rest)] if rest else [])]
     notices += _divided_words(path, scripts, divided(codes, asked), slices)
     notices += dropped(path, font.data, (code for one in slices for code in one.codes), kind)
+    drawn = "".join(pair for one in slices for pair in one.sequences)
+    notices += sequences.told(drawn, [(path, font, kind)], f"{path} lacks")
     is_fitted = kind in SHAPED and not how.as_is and not is_prepared(path)
     return Font(path, font, kind, is_fitted, face, shown, slices, "", lost, rest, notices)
 
@@ -187,7 +192,7 @@ def _base_of(font: Font) -> Base:
     if not font.is_fitted:
         return Base(font.font, False)
     every = sorted({code for one in font.slices for code in one.codes})
-    base = fitted.fitted(font.font, every, font.kind)
+    base = fitted.fitted(font.font, every, font.kind, _NUMBERS)
     return Base(base, len(font.slices) > 1 and fitted.layout_size(base) > _SHARED)
 
 
@@ -196,12 +201,21 @@ def _cut(font: Font, base: Base, one: Slice) -> bytes:
     source = base.font
     if base.is_for_each:
         with refusing(font.path):
-            source = fitted.fitted(source, one.codes, font.kind)
+            source = fitted.fitted(source, one.codes, font.kind, _NUMBERS)
     with refusing(font.path):
-        cut = fontcut.cut(source, one.codes, kind=font.kind)
+        cut = fontcut.cut(source, one.codes, kind=font.kind, gids=_drawn(font, one))
     if font.is_fitted:
-        fitted.check(font.path, font.font, cut, font.kind, samples(font.font, set(map(chr, one.codes))))
+        # The cut has the variation sequences alone that are named. Of those that the font lacks the selector is drawn
+        # as a blank, which is perhaps in another slice.
+        texts = map(sequences.plain, samples(font.font, set(map(chr, one.codes))))
+        drawn = (pair for pair in one.sequences if fontcut.variants(font.font, pair))
+        fitted.check(font.path, font.font, cut, font.kind, [*texts, *drawn])
     return cut
+
+
+def _drawn(font: Font, one: Slice) -> Optional[List[int]]:
+    """The glyphs of the variation sequences of a slice, for kinds of cuts that keep these."""
+    return fontcut.variants(font.font, "".join(one.sequences)) if font.kind in SHAPED and one.sequences else None
 
 
 def _made(font: Font, make: Callable[[], bytes], is_packed: bool) -> Tuple[bytes, Optional[bytes]]:
@@ -218,8 +232,10 @@ def _cuts(font: Font, base: Base, is_packed: bool) -> Iterator[Tuple[Slice, byte
         makes: List[Callable[[], bytes]] = [functools.partial(_cut, font, base, one) for one in some]
         if not font.is_fitted:
             # One call cuts the font faster for all of them.
+            drawn = [_drawn(font, one) for one in some]
             with refusing(font.path):
-                whole = fontcut.slices(base.font, [one.codes for one in some], kind=font.kind)
+                whole = fontcut.slices(base.font, [one.codes for one in some], kind=font.kind,
+                                       gids=drawn if any(drawn) else None)
             makes = [functools.partial(bytes, cut) for cut in whole]
         made = side_by_side([functools.partial(_made, font, make, is_packed) for make in makes])
         yield from ((one, cut, small) for one, (cut, small) in zip(some, made))

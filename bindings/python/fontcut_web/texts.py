@@ -53,16 +53,20 @@ def _check_shapes(given: argparse.Namespace, font: fontcut.Font, source: str, cu
     letters = set(map(chr, cut.codes))
     texts = part("prepare").wanted_of(font, cut.codes, letters, [page.blocks for page in shown]).texts
     lines = {block for page in shown for block in page.blocks}
+    # The cut has the variation sequences of lines alone.
+    others = [] if given.shaped else [sequences.plain(text) for text in texts if text not in lines]
     sets = [(), *{tuple(f"{tag}={value}" for tag, value in one) for page in shown for one in page.features if one}]
     part("fitted").check(source, font, cut.data, given.kind,
-                         [text for text in texts if text in lines or not given.shaped], sorted(sets)[:_TRIED])
+                         [*(text for text in texts if text in lines), *others], sorted(sets)[:_TRIED])
 
 
 def _closed(given: argparse.Namespace, font: fontcut.Font, shown: Sequence[Shown]) -> Cut:
-    """The cut for the characters of pages; where it is to be shaped, also for those that a shaper takes for them."""
-    of_page = letters_of if given.kind in SHAPED else _letters
-    kept = mapped(font, set().union(*map(of_page, shown)))
-    return Cut(fontcut.cut(font, kept, kind=given.kind), kept, {}, [])
+    """The cut for the characters of pages; where it is to be shaped, also for those that a shaper takes for them, and
+    for the glyphs of their variation sequences."""
+    is_shaped = given.kind in SHAPED
+    kept = mapped(font, set().union(*map(letters_of if is_shaped else _letters, shown)))
+    drawn = set().union(*(fontcut.variants(font, page.text) for page in shown)) if is_shaped else None
+    return Cut(fontcut.cut(font, kept, kind=given.kind, gids=drawn), kept, {}, [])
 
 
 def _letters(page: Shown) -> Set[str]:
@@ -129,7 +133,7 @@ def _dropped(given: argparse.Namespace, source: str, font: fontcut.Font, cut: Cu
     lines += losses.lines(source, font, cut.codes, given.kind, given.named is not None)
     with contextlib.suppress(Missing):
         lines += [f"{page.path}: {line}" for page in shown
-                  for line in sequences.told(page.text, [(source, font.data)])]
+                  for line in sequences.told(page.text, [(source, font, given.kind)])]
     return lines
 
 

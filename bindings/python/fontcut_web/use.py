@@ -12,7 +12,9 @@ from . import pages
 from .common import UsageError, need
 from .inputs import accepted, read_pages
 from .presets import characters_of
-from .sets import REST, Asked, asked, codes_of, divided, named_codes, range_words
+from .sequences import sequences_in, word_of
+from .sets import (REST, Asked, Equal, asked, codes_of, divided, named_codes, range_words, sequences_of,
+                   with_sequences)
 
 # What names of pages end in, among the names of fonts.
 _PAGES = ".html", ".htm", ".xhtml", ".txt"
@@ -46,7 +48,10 @@ def fonts_and_slices(given: argparse.Namespace) -> Tuple[List[str], List[Asked]]
     if not fonts:
         raise UsageError("no font is named")
     order = order_of(given.order) if given.order else []
-    wanted = asked(given.slices, order, counted(read_pages(found)))
+    shown = read_pages(found)
+    drawn = ["".join(map(chr, pair)) for pair in set().union(*(sequences_in(page.text) for page in shown))]
+    wanted = [one._replace(sequences=drawn) if isinstance(one, Equal) else one
+              for one in asked(given.slices, order, counted(shown))]
     if not wanted:
         raise UsageError("the list names no slice")
     if given.rest and REST in (name for one in wanted for name in one.names()):
@@ -55,8 +60,10 @@ def fonts_and_slices(given: argparse.Namespace) -> Tuple[List[str], List[Asked]]
 
 
 def listed(codes: Sequence[int], wanted: Sequence[Asked]) -> List[str]:
-    """The lines of slices of some characters, as the program reads them: a name and ranges in each."""
-    return [f"{one.name} {range_words(one.codes)}" for one in divided(codes, wanted)]
+    """The lines of slices of some characters, as the program reads them: a name and ranges in each, and variation
+    sequences."""
+    slices = with_sequences(divided(codes, wanted), sequences_of(wanted))
+    return [f"{one.name} {', '.join([range_words(one.codes), *map(word_of, one.sequences)])}" for one in slices]
 
 
 def run(given: argparse.Namespace) -> None:

@@ -389,8 +389,8 @@ pub fn version() -> (u8, u8, u8) {
 ///
 /// The first refusal that applies, with the index of the file: 1 to 14 and 17 if it is not an accepted font, 5
 /// and 6 for its layout tables, of [`Kind::Layout`] and [`Kind::Variable`] alone, 28 for its `gvar`, of the latter
-/// alone, 20 if it is not a cut of the kind, 21 to 23 and 29 if it is not a cut of the font of those before it (no
-/// kind of today meets 29), 18 if the join would be too large for a file, 24 if there is no file, 16 if out of memory.
+/// alone, 20 if it is not a cut of the kind, 21 to 23 and 29 if it is not a cut of the font of those before it, 18 if
+/// the join would be too large for a file, 24 if there is no file, 16 if out of memory.
 pub fn join<I>(kind: Kind, cuts: I) -> Result<Cut, Error>
 where
     I: IntoIterator,

@@ -1,8 +1,8 @@
 -- A font without tables that cuts of a kind do not have has the same cuts of the kind.
 use Rattle.std.proofs.Common.{◌≡◌, ◌≢◌, ◌∙◌, ℕ, ◌+◌, ◌<◌, ◌≤◌, ◌⊎◌, inl, inr, Bool, true, false, cond, List, [], ◌∷◌}
-use Rattle.std.proofs.Common.{ap, refl, subst, sym, arith, find, get_or, length, nat_eq, nat_le, nat_lt, if◌then◌else◌}
+use Rattle.std.proofs.Common.{Some, ap, refl, subst, sym, arith, find, get_or, length, nat_eq, nat_lt, if◌then◌else◌}
 use Rattle.std.specs.Option.{option_map, option_or}
-use Rattle.std.proofs.lemmas.Bool.{agree_below_at, both_ways, le-leb, ltb-true, or_right}
+use Rattle.std.proofs.lemmas.Bool.{agree_below_at, both_ways, cases_eq, lt-ltb, ltb-true, or_right}
 use Rattle.std.proofs.lemmas.Slice.Eq.{bytes_eq-Decides}
 use Rattle.sfnt_bytes.specs.Directory.{HasRecords, kept_tag, slot_tag, table_of}
 use Rattle.sfnt_bytes.specs.Lines.{first_of_lines, when}
@@ -18,11 +18,14 @@ use Rattle.font_theory.specs.Content.{Font, Wanted, content, is_bad_variations_i
 use Rattle.font_theory.specs.Kinds.Reading.{absent, as_it_is, unvarying}
 use Rattle.font_theory.specs.Kinds.{Reading, fault_by, fault_of, font_of, format_by, format_of, full_settings}
 use Rattle.font_theory.specs.Kinds.{layout_settings, lean_settings, read_by, settings, tables_of, there_by}
-use Rattle.font_theory.specs.Kinds.{variable_settings}
+use Rattle.font_theory.specs.Kinds.{sequences_of_file, table_in_file, variable_settings}
 use Rattle.font_theory.specs.Parting.{divided}
 use Rattle.font_theory.specs.declared.kinds.Kind.{Kind}
 use Rattle.font_theory.specs.declared.kinds.Kind.TheVariants.{Full, Layout, Lean, Variable}
+use Rattle.font_theory.specs.SequenceTable.{sequences_of_font}
+use Rattle.font_theory.specs.declared.kinds.TheConstants.{SEQUENCES}
 use Rattle.font_theory.proofs.KindLemmas.{settings-are}
+use Rattle.font_theory.proofs.SettingsLemmas.{table_in_file-tag}
 use Rattle.font_subset.specs.CutOfKind.{cut_of}
 use Rattle.commands.specs.Drop.{without_tables}
 use Rattle.cut_laws.specs.Dropping.{DroppingKeepsCut, KeptStay, ReadStay, Stays}
@@ -32,11 +35,12 @@ use Rattle.cut_laws.proofs.DropTableLemmas.{is_duplicate-without, is_outside-wit
 
 -- a table that is read has a slot of some cut
 module _ (kind : Kind) where
-  is_read : (slot : ℕ) → ((settings kind).reading slot ≡ absent)
+  is_read : (slot : ℕ) → slot ≢ SEQUENCES → ((settings kind).reading slot ≡ absent)
       ⊎ ((slot < ALL_SLOTS) × ((settings kind).reading slot ≢ absent))
-  is_read slot = elim (low_or_past slot) [
+  is_read slot other = elim (low_or_past slot) [
     | inl low ↦ by_reading low ((settings kind).reading slot) refl
-    | inr past ↦ inl ((settings-are kind).never slot (or_right _ (nat_le ALL_SLOTS slot) (le-leb ALL_SLOTS slot past)))
+    | inr past ↦ inl ((settings-are kind).never slot
+        (or_right _ (nat_lt SEQUENCES slot) (lt-ltb SEQUENCES slot (omega (arith, past, other)))))
   ]
     where
       low_or_past : (n : ℕ) → (n < ALL_SLOTS) ⊎ (ALL_SLOTS ≤ n)
@@ -88,14 +92,26 @@ module _ (kind : Kind) (tags : List Tag) (file : List ℕ) (fits : HasRecords fi
   abbrev made : List ℕ
   made = without_tables tags file
 
+  -- the variation sequences stand in `cmap`, which stays
+  sequences-same : tables_of kind made SEQUENCES ≡ tables_of kind file SEQUENCES
+  unfolding sequences_of_file
+  sequences-same = λ i. read_by ((settings kind).reading SEQUENCES) SEQUENCES
+      (Some (sequences_of_font (cmap-without tags file fits kept i)
+      (mapping_of (cmap-without tags file fits kept i) (count-without tags file fits kept i))
+      (count-without tags file fits kept i)))
+
   table-same : (slot : ℕ) → tables_of kind made slot ≡ tables_of kind file slot
-  table-same slot = elim (is_read kind slot) [
-    | inl none ↦
-        ap (λ r. read_by r slot (table_of made (slot_tag slot))) none
-        ∙ sym (ap (λ r. read_by r slot (table_of file (slot_tag slot))) none)
-    | inr read ↦
-        ap (read_by ((settings kind).reading slot) slot)
-        (table-without tags file fits (slot_tag slot) (stay slot read.0 read.1) (same_tag-blanks slot read.0))
+  table-same slot = elim (cases_eq slot SEQUENCES) [
+    | inl e ↦ subst (λ (s : ℕ). tables_of kind made s ≡ tables_of kind file s) (sym e) sequences-same
+    | inr other ↦ elim (is_read kind slot other) [
+      | inl none ↦
+          ap (λ r. read_by r slot (table_in_file made slot)) none
+          ∙ sym (ap (λ r. read_by r slot (table_in_file file slot)) none)
+      | inr read ↦
+          ap (read_by ((settings kind).reading slot) slot) (table_in_file-tag made slot other
+          ∙ table-without tags file fits (slot_tag slot) (stay slot read.0 read.1) (same_tag-blanks slot read.0)
+          ∙ sym (table_in_file-tag file slot other))
+    ]
   ]
 
   outlines-same : (plain_font made).outline ≡ (plain_font file).outline

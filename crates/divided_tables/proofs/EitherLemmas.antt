@@ -75,7 +75,7 @@ module _ (C E : Content) (P Q : ℕ → List ℕ) (first_kept : (g : ℕ) → C.
 -- so a union has tables of metrics laid over one another, and names that are those of either
 pub metrics_united : (header slot : ℕ) (C E : Content) → IsUnionOf (metrics header) slot C E None
 unfolding metrics
-metrics_united header slot C E = λ c P Q are.
+metrics_united header slot C E = λ c P Q are fit.
     let R : ℕ → List ℕ = λ g. cond (is_some (C.outline g)) (P g) (Q g) in
     (λ i. made_or_laid None (are.first i) (unwrap_or (are.second i) []))
     ∙ go c P Q R (each_byte C E P Q are.first_kept are.second_kept are.same) (c slot)
@@ -92,7 +92,7 @@ metrics_united header slot C E = λ c P Q are.
 
 pub names_united : (slot : ℕ) (C E : Content) → IsUnionOf nameless slot C E None
 unfolding nameless
-names_united slot C E = λ c P Q are.
+names_united slot C E = λ c P Q are fit.
     (λ i. made_or_laid None (are.first i) (unwrap_or (are.second i) [])) ∙ go (c slot)
   where
     go : (o : Option (List ℕ)) → option_map (λ t. either_bytes t (unwrap_or (option_map (λ f. f) o) []))

@@ -10,20 +10,24 @@ use Rattle.font_theory.specs.Kinds.{Settings, by_metrics, divides_tables, full_s
 use Rattle.font_theory.specs.Kinds.{partition_of, reduced, settings, variable_settings}
 use Rattle.font_theory.specs.Kinds.Reading.{absent, as_it_is}
 use Rattle.font_theory.specs.Parting.{IsPart, IsPartition, Parting, Partition, Tables, context, frames, is_bad_at}
-use Rattle.font_theory.specs.Parting.{may_divide, parts_of, wholes}
+use Rattle.font_theory.specs.Parting.{fits_at, may_divide, parts_of, wholes}
 use Rattle.font_theory.proofs.DividedLemmas.{IsPartOf}
 use Rattle.font_theory.proofs.HeldLemmas.{cases_option}
 use Rattle.font_theory.proofs.PartLemmas.{context-alike, frames-other, glyph_count-alike, parts_of-at}
+use Rattle.font_theory.specs.declared.kinds.TheConstants.{SEQUENCES}
 use Rattle.font_theory.specs.declared.kinds.Kind.{Kind}
 use Rattle.font_theory.specs.declared.kinds.Kind.TheVariants.{Full, Layout, Lean, Variable}
 use Rattle.font_theory.proofs.KindLemmas.{divided-kind, divides}
-use Rattle.font_theory.proofs.PartLemmas.{by_slot, good-font, no_slot, parts_of-alike, parts_of-none}
+use Rattle.font_theory.proofs.PartLemmas.{by_any_slot, good-font, no_slot, parts_of-alike, parts_of-none}
 use Rattle.font_theory.proofs.WordLemmas.{reduced-slot}
 use Rattle.divided_tables.specs.DividedTables.{AreFine, finest, has_refused}
 use Rattle.divided_tables.proofs.MadeLemmas.{not_divided}
 
-by_metrics-same : (slot : ℕ) → slot ≢ GVAR → finest slot ≡ by_metrics slot
-by_metrics-same slot other = let f = ne_eqb slot GVAR other in rw f refl
+by_metrics-same : (slot : ℕ) → slot ≢ GVAR → slot ≢ SEQUENCES → finest slot ≡ by_metrics slot
+by_metrics-same slot other tagged =
+    let past = ne_eqb slot SEQUENCES tagged in
+    let f = ne_eqb slot GVAR other in
+    rw (past, f) refl
 
 module _ (k : Kind) (some : divides_tables k ≡ true) (c : Tables)
     (unread : (slot : ℕ) → (settings k).reading slot ≡ absent → c slot ≡ None) where
@@ -33,7 +37,13 @@ module _ (k : Kind) (some : divides_tables k ≡ true) (c : Tables)
       | inl d ↦ inl (ap (partition_of k) e ∙ d ∙ sym (ap finest e))
       | inr a ↦ inr (ap c e ∙ unread GVAR a)
     ]
-    | inr other ↦ inl (divided-kind k some slot other ∙ sym (by_metrics-same slot other))
+    | inr other ↦ elim (cases_eq slot SEQUENCES) [
+      | inl e ↦ elim (divides k).sequences [
+        | inl d ↦ inl (ap (partition_of k) e ∙ d ∙ sym (ap finest e))
+        | inr a ↦ inr (ap c e ∙ unread SEQUENCES a)
+      ]
+      | inr tagged ↦ inl (divided-kind k some slot other tagged ∙ sym (by_metrics-same slot other tagged))
+    ]
   ]
 
   pub parts_as : (slot g : ℕ) → parts_of (partition_of k) c slot g ≡ parts_of finest c slot g
@@ -59,6 +69,15 @@ module _ (k : Kind) (some : divides_tables k ≡ true) (c : Tables)
     | inl e ↦ (λ i. option_map (λ frame. (sym e i).whole (context c) frame (parts slot)) (c slot))
     | inr n ↦ ap (option_map (λ frame. (finest slot).whole (context c) frame (parts slot))) n
         ∙ sym (ap (option_map (λ frame. (partition_of k slot).whole (context c) frame (parts slot))) n)
+  ]
+
+  -- and with the room for them
+  pub fits_as : (slot : ℕ) (parts : ℕ → ℕ → List ℕ) (frame : List ℕ) → c slot ≡ Some frame
+      → fits_at (partition_of k) c parts slot ≡ (finest slot).fits (context c) frame (parts slot)
+  unfolding fits_at
+  fits_as slot parts frame here = elim (divided_as slot) [
+    | inl e ↦ (λ i. option_map_or (λ f. (e i).fits (context c) f (parts slot)) (here i) true)
+    | inr n ↦ (let no : None ≡ Some frame = sym n ∙ here in cc)
   ]
 
   -- and with the parts of which these are made
@@ -117,21 +136,25 @@ abbrev IsWhole : Settings → ℕ → Type 0
 IsWhole s slot = (s.reading slot ≡ absent) ⊎ (s.reading slot ≡ as_it_is)
 
 never_here : {X : Type 0} (slot : ℕ) → may_divide slot ≡ true → nat_eq slot GVAR ≡ false
-    → nat_eq slot HMTX ≡ false → nat_eq slot POST ≡ false → nat_eq slot VMTX ≡ false → X
-never_here slot t a b c d = no_slot (sym (not_divided slot a b c d) ∙ t)
+    → nat_eq slot HMTX ≡ false → nat_eq slot POST ≡ false → nat_eq slot VMTX ≡ false → nat_eq slot SEQUENCES ≡ false → X
+never_here slot t a b c d e = no_slot (sym (not_divided slot a b c d e) ∙ t)
 
 -- a kind reads the tables that may be divided as they are, or not at all
 pub read_divided : (k : Kind) (slot : ℕ) → may_divide slot ≡ true
     → ((settings k).reading slot ≡ absent) ⊎ ((settings k).reading slot ≡ as_it_is)
 unfolding full_settings lean_settings layout_settings variable_settings
-read_divided Full = by_slot (λ slot. may_divide slot ≡ true → IsWhole full_settings slot) (λ _. inl refl)
-    (λ _. inr refl) (λ _. inr refl) (λ _. inr refl) (λ slot a b c d t. never_here slot t a b c d)
-read_divided Lean = by_slot (λ slot. may_divide slot ≡ true → IsWhole lean_settings slot) (λ _. inl refl)
-    (λ _. inr refl) (λ _. inr refl) (λ _. inr refl) (λ slot a b c d t. never_here slot t a b c d)
-read_divided Layout = by_slot (λ slot. may_divide slot ≡ true → IsWhole layout_settings slot) (λ _. inl refl)
-    (λ _. inr refl) (λ _. inr refl) (λ _. inr refl) (λ slot a b c d t. never_here slot t a b c d)
-read_divided Variable = by_slot (λ slot. may_divide slot ≡ true → IsWhole variable_settings slot) (λ _. inr refl)
-    (λ _. inr refl) (λ _. inr refl) (λ _. inr refl) (λ slot a b c d t. never_here slot t a b c d)
+read_divided Full = by_any_slot (λ slot. may_divide slot ≡ true → IsWhole (settings Full) slot)
+    (λ _. inl refl) (λ _. inr refl) (λ _. inr refl) (λ _. inr refl) (λ _. inl refl)
+    (λ slot a b c d e t. never_here slot t a b c d e)
+read_divided Lean = by_any_slot (λ slot. may_divide slot ≡ true → IsWhole (settings Lean) slot)
+    (λ _. inl refl) (λ _. inr refl) (λ _. inr refl) (λ _. inr refl) (λ _. inl refl)
+    (λ slot a b c d e t. never_here slot t a b c d e)
+read_divided Layout = by_any_slot (λ slot. may_divide slot ≡ true → IsWhole (settings Layout) slot)
+    (λ _. inl refl) (λ _. inr refl) (λ _. inr refl) (λ _. inr refl) (λ _. inr refl)
+    (λ slot a b c d e t. never_here slot t a b c d e)
+read_divided Variable = by_any_slot (λ slot. may_divide slot ≡ true → IsWhole (settings Variable) slot)
+    (λ _. inr refl) (λ _. inr refl) (λ _. inr refl) (λ _. inr refl) (λ _. inr refl)
+    (λ slot a b c d e t. never_here slot t a b c d e)
 
 -- an accepted font has no bad table
 pub refused-is : (c : Tables) → has_refused c ≡ is_bad_variations_in c

@@ -1,9 +1,17 @@
 pub mod EitherLemmas
 pub mod FilledLemmas
 pub mod FourLemmas
+pub mod HeldSequenceLemmas
 pub mod KindPartLemmas
 pub mod MadeLemmas
 pub mod MetricTableLemmas
 pub mod NameLemmas
 pub mod OpenLemmas
 pub mod VariationLemmas
+pub mod SequenceAscentLemmas
+pub mod SequenceClashLemmas
+pub mod SequenceKeyLemmas
+pub mod MadeSequenceLemmas
+pub mod SequenceNextLemmas
+pub mod SequenceUnionLemmas
+pub mod SequenceWholeLemmas

@@ -454,6 +454,6 @@ module _ (C E : Content) (c : Tables) (P Q : ℕ → List ℕ) (are : AreJoinabl
 
 pub gvar_united : (C E : Content) (made : Option (List ℕ)) → made ≡ united_gvar C E
     → IsUnionOf variations GVAR C E made
-gvar_united C E made is = λ c P Q are.
+gvar_united C E made is = λ c P Q are fit.
     ap (λ m. made_or_laid m (C.copied GVAR) (table_in_slot E.copied GVAR)) is
     ∙ united_by C E c P Q are (c GVAR) refl

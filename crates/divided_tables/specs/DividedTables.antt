@@ -1,5 +1,6 @@
--- All divided tables, as they are open and as they are made anew. This is this project's own (OpenType 1.9, gvar; hmtx;
--- post; vmtx).
+-- All divided tables, as they are open and as they are made anew. This is this project's own (OpenType 1.9,
+-- cmap, Format
+-- 14: Unicode variation sequences; gvar; hmtx; post; vmtx).
 use Rattle.std.specs.Prelude.{◌≡◌, ℕ, ◌≤◌, nat_eq, nat_lt, ◌&&◌, ◌||◌, Bool, true, List, [], length, if◌then◌else◌}
 use Rattle.std.specs.Prelude.{Option, None, unwrap_or}
 use Rattle.std.specs.Option.{option_or}
@@ -7,17 +8,19 @@ use Rattle.std.specs.Str.{bytes_eq}
 use Rattle.sfnt_bytes.specs.declared.tag.TheConstants.{GVAR, HHEA, HMTX, POST, VHEA, VMTX}
 use Rattle.font_theory.specs.Content.{Content, glyph_count, table_in_slot}
 use Rattle.font_theory.specs.Kinds.{by_variations, reduced}
-use Rattle.font_theory.specs.Parted.{metrics, nameless, variations}
+use Rattle.font_theory.specs.Parted.{metrics, nameless, sequences, variations}
 use Rattle.font_theory.specs.Parting.{Partition, Tables, may_divide}
+use Rattle.font_theory.specs.declared.kinds.TheConstants.{SEQUENCES}
 use Rattle.font_write.specs.declared.source.TheConstants.{MAX_TABLE}
 use Rattle.divided_tables.specs.OpenMetrics.{IsMetricsIn, OpenMetrics, metrics_parts}
 use Rattle.divided_tables.specs.PartedTable.{ArePartsIn, GlyphParts, IsFine, IsUnionOf, is_bad_in, made_or_laid}
 use Rattle.divided_tables.specs.PartedTable.{no_parts}
+use Rattle.divided_tables.specs.HeldSequences.{AreHeldBy, OpenTable, held_parts}
 use Rattle.divided_tables.specs.OpenVariations.{AreVariationsOf, OpenVariations, variations_parts}
 
 -- the partition that divides each table that some kind divides
 abbrev pub finest : Partition
-finest = by_variations
+finest slot = if nat_eq slot SEQUENCES then sequences else by_variations slot
 
 -- no table that may be divided is bad, or longer than a file
 abbrev pub AreFine : Tables → Type 0
@@ -32,6 +35,7 @@ pub record OpenParts : Type 0 where
   pub across : OpenMetrics
   pub down : OpenMetrics
   pub names : ℕ
+  pub sequences : OpenTable
   pub varied : OpenVariations
 
 -- the number of glyphs
@@ -42,6 +46,7 @@ count_in o = o.across.count
 pub record AreOfGlyphs (o : OpenParts) : Type 0 where
   pub down_count : o.down.count ≡ count_in o
   pub names_count : o.names ≡ count_in o
+  pub sequences_count : o.sequences.count ≡ count_in o
   pub varied_count : o.varied.count ≡ count_in o
 
 -- they are those of some tables
@@ -52,6 +57,8 @@ pub record AreOpen (copied : Tables) (o : OpenParts) : Type 0 where
   pub down_parts : ArePartsIn (metrics VHEA) VMTX copied (metrics_parts o.down)
   pub names_are : o.names ≡ glyph_count copied
   pub names_parts : ArePartsIn nameless POST copied (no_parts o.names)
+  pub sequences_are : AreHeldBy copied o.sequences
+  pub sequences_parts : ArePartsIn sequences SEQUENCES copied (held_parts o.sequences)
   pub varied_is : AreVariationsOf copied o.varied
   pub varied_parts : ArePartsIn variations GVAR copied (variations_parts o.varied)
 
@@ -63,7 +70,7 @@ has_part table g = nat_lt 0 (length (table.part g))
 abbrev pub has_parts : OpenParts → ℕ → Bool
 has_parts o g =
     has_part (metrics_parts o.across) g || has_part (metrics_parts o.down) g || has_part (no_parts o.names) g
-    || has_part (variations_parts o.varied) g
+    || has_part (variations_parts o.varied) g || has_part (held_parts o.sequences) g
 
 -- a glyph has the same part in two tables
 abbrev pub has_same_part : GlyphParts → GlyphParts → ℕ → Bool
@@ -75,7 +82,8 @@ has_same_parts o p g =
     has_same_part (metrics_parts o.across) (metrics_parts p.across) g
     && (has_same_part (metrics_parts o.down) (metrics_parts p.down) g
     && (has_same_part (no_parts o.names) (no_parts p.names) g
-    && has_same_part (variations_parts o.varied) (variations_parts p.varied) g))
+    && (has_same_part (variations_parts o.varied) (variations_parts p.varied) g
+    && has_same_part (held_parts o.sequences) (held_parts p.sequences) g)))
 
 -- tables in the slots of those that are divided
 pub record Made : Type 0 where
@@ -83,10 +91,11 @@ pub record Made : Type 0 where
   pub hmtx : Option (List ℕ)
   pub post : Option (List ℕ)
   pub vmtx : Option (List ℕ)
+  pub sequences : Option (List ℕ)
 
 -- none of them
 abbrev pub none_made : Made
-none_made = record { gvar = None; hmtx = None; post = None; vmtx = None }
+none_made = record { gvar = None; hmtx = None; post = None; vmtx = None; sequences = None }
 
 -- none of them is too long
 pub record AreShort (made : Made) : Type 0 where
@@ -94,12 +103,14 @@ pub record AreShort (made : Made) : Type 0 where
   pub short_hmtx : length (unwrap_or made.hmtx []) ≤ MAX_TABLE
   pub short_post : length (unwrap_or made.post []) ≤ MAX_TABLE
   pub short_vmtx : length (unwrap_or made.vmtx []) ≤ MAX_TABLE
+  pub short_sequences : length (unwrap_or made.sequences []) ≤ MAX_TABLE
 
 -- that of a slot
 unfoldable pub made_at : Made → ℕ → Option (List ℕ)
 made_at made slot =
     if nat_eq slot GVAR then made.gvar else if nat_eq slot HMTX then made.hmtx
-    else if nat_eq slot POST then made.post else if nat_eq slot VMTX then made.vmtx else None
+    else if nat_eq slot POST then made.post else if nat_eq slot VMTX then made.vmtx
+    else if nat_eq slot SEQUENCES then made.sequences else None
 
 -- tables with these in their slots
 unfoldable pub replaced : Tables → Made → Tables
@@ -120,4 +131,5 @@ all_laid copied own made = record {
   hmtx = made_or_laid made.hmtx own.hmtx (table_in_slot copied HMTX);
   post = made_or_laid made.post own.post (table_in_slot copied POST);
   vmtx = made_or_laid made.vmtx own.vmtx (table_in_slot copied VMTX);
+  sequences = made_or_laid made.sequences own.sequences (table_in_slot copied SEQUENCES);
 }

@@ -1,11 +1,18 @@
 -- One divided table: what is told of it where it is open, and what is made of it. This is this project's own.
-use Rattle.std.specs.Prelude.{◌≡◌, ℕ, ◌<◌, ◌≤◌, Bool, false, List, [], length, if◌then◌else◌, Option, None, Some}
+use Rattle.std.specs.Prelude.{◌≡◌, ℕ, ◌<◌, ◌≤◌, nat_eq, ◌||◌, Bool, true, false, List, [], length}
+use Rattle.std.specs.Prelude.{if◌then◌else◌, Option, None, Some}
 use Rattle.std.specs.Prelude.{is_some}
 use Rattle.std.specs.Option.{option_map, option_map_or, option_or}
+use Rattle.sfnt_bytes.specs.Directory.{is_layout_slot}
 use Rattle.sfnt_bytes.specs.declared.directory.TheConstants.{MAX_FILE}
 use Rattle.font_theory.specs.Content.{Content, glyph_count, table_in_slot}
 use Rattle.font_theory.specs.Parted.{either_bytes}
+use Rattle.font_theory.specs.declared.kinds.TheConstants.{SEQUENCES}
 use Rattle.font_theory.specs.Parting.{IsPart, Parting, Partition, Tables, context, is_bad_at, parts_of}
+
+-- what cuts may read otherwise than it stands in the file: the tables of layout, and variation sequences
+abbrev pub is_read_apart : ℕ → Bool
+is_read_apart slot = is_layout_slot slot || nat_eq slot SEQUENCES
 
 -- the partition by which each table is divided in one way, for a slot of which alone is spoken
 abbrev pub alone : Parting → Partition
@@ -46,6 +53,8 @@ pub record AreJoinable (D : Parting) (slot : ℕ) (C E : Content) (c : Tables) (
       (frame : List ℕ) (g : ℕ) → c slot ≡ Some frame → g < glyph_count c → IsPart D (context c) frame g (P g)
   pub second_parts :
       (frame : List ℕ) (g : ℕ) → c slot ≡ Some frame → g < glyph_count c → IsPart D (context c) frame g (Q g)
+  pub first_fits : (frame : List ℕ) → c slot ≡ Some frame → D.fits (context c) frame P ≡ true
+  pub second_fits : (frame : List ℕ) → c slot ≡ Some frame → D.fits (context c) frame Q ≡ true
   pub first_kept : (g : ℕ) → C.outline g ≡ None → P g ≡ []
   pub second_kept : (g : ℕ) → E.outline g ≡ None → Q g ≡ []
   pub same : (g : ℕ) (a b : List ℕ) → C.outline g ≡ Some a → E.outline g ≡ Some b → P g ≡ Q g
@@ -54,9 +63,21 @@ pub record AreJoinable (D : Parting) (slot : ℕ) (C E : Content) (c : Tables) (
 abbrev pub made_or_laid : Option (List ℕ) → Option (List ℕ) → List ℕ → Option (List ℕ)
 made_or_laid made first second = option_or made (option_map (λ t. either_bytes t second) first)
 
--- so made, a table has the frame of both contents, and of each glyph the part of the first that keeps it
+-- the parts of the first of two contents where it keeps the glyph, and else those of the second
+abbrev pub either_kept : Content → (ℕ → List ℕ) → (ℕ → List ℕ) → ℕ → List ℕ
+either_kept C P Q g = if is_some (C.outline g) then P g else Q g
+
+-- whether these have room in the table of a slot, where there is one
+abbrev pub IsRoomOf : Parting → ℕ → Content → Content → Bool → Type 0
+IsRoomOf D slot C E room =
+    (c : Tables) (P Q : ℕ → List ℕ) → AreJoinable D slot C E c P Q → (frame : List ℕ) → c slot ≡ Some frame →
+    room ≡ D.fits (context c) frame (either_kept C P Q)
+
+-- so made, a table has the frame of both contents, and of each glyph the part of the first that keeps it, where these
+-- have room
 abbrev pub IsUnionOf : Parting → ℕ → Content → Content → Option (List ℕ) → Type 0
 IsUnionOf D slot C E made =
     (c : Tables) (P Q : ℕ → List ℕ) → AreJoinable D slot C E c P Q →
+    ((frame : List ℕ) → c slot ≡ Some frame → D.fits (context c) frame (either_kept C P Q) ≡ true) →
     made_or_laid made (C.copied slot) (table_in_slot E.copied slot)
-    ≡ option_map (λ frame. D.whole (context c) frame (λ g. if is_some (C.outline g) then P g else Q g)) (c slot)
+    ≡ option_map (λ frame. D.whole (context c) frame (either_kept C P Q)) (c slot)

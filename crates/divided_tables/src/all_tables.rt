@@ -1,5 +1,5 @@
 //! All divided tables, one field each: open, and made anew. A new one is a `PartedTable` and its place in each of these.
-//! OpenType 1.9, gvar; hmtx; post; vmtx.
+//! OpenType 1.9, cmap, Format 14: Unicode variation sequences; gvar; hmtx; post; vmtx.
 ghost use Rattle.std.specs.Prelude.{◌≡◌, ◌<◌, ◌≤◌, ℕ, List, [], Option, false, true, length, nat_lt, option_copied, unwrap_or, None, Some, IfOk, IsTrue, MatchOption, OnErr};
 ghost use Rattle.std.specs.Option.{option_map, option_or};
 ghost use Rattle.sfnt_bytes.specs.Memory.{IsRefused};
@@ -7,29 +7,34 @@ ghost use Rattle.font_theory.specs.Content.{glyph_count};
 ghost use Rattle.font_theory.specs.Parted.{either_bytes};
 ghost use Rattle.font_theory.specs.Parting.{Tables, frames, may_divide};
 ghost use Rattle.font_write.specs.declared.source.TheConstants.{MAX_TABLE};
-ghost use Rattle.divided_tables.specs.PartedTable.{made_or_laid};
+ghost use Rattle.font_theory.specs.Parted.{sequences};
+ghost use Rattle.divided_tables.specs.PartedTable.{IsRoomOf, made_or_laid};
+ghost use Rattle.font_theory.specs.declared.kinds.TheConstants.{SEQUENCES as SEQUENCE_SLOT};
+ghost use Rattle.divided_tables.specs.HeldSequences.{AreHeldBy};
 ghost use Rattle.divided_tables.specs.DividedTables.{AreFine, AreOpen, AreUnionOf, IsKept, all_laid, count_in, finest, has_parts, has_refused, has_same_parts, made_at, none_made, replaced};
 
 use crate::glyph_variations::GlyphVariations;
+use crate::held_sequences::HeldSequences;
 use crate::metrics::{Across, Down, Metrics};
 use crate::names::Names;
 use crate::parted_table::{OpenFrom, PartedTable, TablesBySlot, TablesOf};
+use font_theory::SEQUENCES;
 use font_write::Source;
 use sfnt_bytes::{GVAR, HMTX, Memory, NoMemory, POST, VMTX};
 use std::alloc::Allocator;
 use std::marker::Model;
 
 /// The divided tables of a font, open.
-#[derive(Drop)]
-pub struct OpenTables<'t> {
+pub struct OpenTables<'t, A: Allocator> {
     across: Metrics<'t, Across>,
     down: Metrics<'t, Down>,
     names: Names,
+    sequences: HeldSequences<A>,
     varied: GlyphVariations<'t>,
 }
 
 // Its value is that of each table.
-impl<'t> Model for OpenTables<'t> {
+impl<'t, A: Allocator> Model for OpenTables<'t, A> {
     ghost use Rattle.divided_tables.specs.DividedTables.{AreOfGlyphs, OpenParts};
 
     ghost Value = { OpenParts };
@@ -38,6 +43,7 @@ impl<'t> Model for OpenTables<'t> {
       across = t.across;
       down = t.down;
       names = t.names.count;
+      sequences = t.sequences;
       varied = t.varied;
     } };
 
@@ -45,13 +51,30 @@ impl<'t> Model for OpenTables<'t> {
       across = t.across;
       down = t.down;
       names = t.names.count;
+      sequences = t.sequences;
       varied = t.varied;
     }) };
 }
 
-impl<'t> OpenTables<'t> {
-    /// Opens the tables of a font, or returns none where one is refused, which is none of an accepted font.
-    pub fn open<B: TablesBySlot<'t>>(tables: &B) -> Option<OpenTables<'t>>
+impl<'t, A: Allocator> Drop for OpenTables<'t, A> {
+    fn drop(self) {
+        let OpenTables {
+            across: _across,
+            down: _down,
+            names: _names,
+            sequences: _sequences,
+            varied: _varied,
+        } = self;
+    }
+}
+
+impl<'t, A: Allocator> OpenTables<'t, A> {
+    // Opens the tables of a font, of whose variation sequences these are open, or returns none where one is refused.
+    fn with<B: TablesBySlot<'t>>(
+        tables: &B,
+        sequences: HeldSequences<A>,
+    ) -> Option<OpenTables<'t, A>>
+        requires { AreHeldBy (B.tables_in tables.now) sequences }
         ensures { MatchOption result (has_refused (B.tables_in tables.now) ≡ true)
             (λ parts. AreOpen (B.tables_in tables.now) parts × (has_refused (B.tables_in tables.now) ≡ false)) }
     {
@@ -71,20 +94,19 @@ impl<'t> OpenTables<'t> {
             across,
             down,
             names,
+            sequences,
             varied,
         })
     }
 
-    /// Opens the tables of a content.
-    pub fn of<S: Source>(source: &'t S) -> OpenTables<'t>
-        requires { AreFine (S.content_of source.now).copied }
-        ensures { AreOpen (S.content_of source.entry.now).copied result }
+    /// Opens the tables of a font of which no variation sequences are read, or returns none where one is refused, which is
+    /// none of an accepted font. It asks for no memory.
+    pub fn unsequenced<B: TablesBySlot<'t>>(tables: &B) -> Option<OpenTables<'t, A>>
+        requires { B.tables_in tables.now SEQUENCE_SLOT ≡ None }
+        ensures { MatchOption result (has_refused (B.tables_in tables.now) ≡ true)
+            (λ parts. AreOpen (B.tables_in tables.now) parts × (has_refused (B.tables_in tables.now) ≡ false)) }
     {
-        match OpenTables::open(&TablesOf::new(source)) {
-            Some(tables) => tables,
-            // The tables have been accepted before.
-            None => unreachable!(),
-        }
+        OpenTables::with(tables, HeldSequences::none(tables.glyph_count()))
     }
 
     /// Tells whether a glyph has a part that is not empty.
@@ -92,7 +114,11 @@ impl<'t> OpenTables<'t> {
         requires { g < count_in self.now }
         ensures { result ≡ has_parts self.now g }
     {
-        self.across.has(g) || self.down.has(g) || self.names.has(g) || self.varied.has(g)
+        self.across.has(g)
+            || self.down.has(g)
+            || self.names.has(g)
+            || self.varied.has(g)
+            || self.sequences.has(g)
     }
 
     /// Tells whether some glyphs, from one on and below another, surely have no part. It is quick for most glyphs of a cut.
@@ -103,12 +129,13 @@ impl<'t> OpenTables<'t> {
     {
         self.varied.has_none(from, to)
             && self.names.has_none(from, to)
+            && self.sequences.has_none(from, to)
             && self.across.has_none(from, to)
             && self.down.has_none(from, to)
     }
 
     /// Tells whether a glyph has the same parts in the tables of another font.
-    pub fn is_same(&self, other: &OpenTables<'t>, g: u16) -> bool
+    pub fn is_same(&self, other: &OpenTables<'t, A>, g: u16) -> bool
         requires first { g < count_in self.now }
         requires second { g < count_in other.now }
         ensures { result ≡ has_same_parts self.now other.now g }
@@ -117,6 +144,60 @@ impl<'t> OpenTables<'t> {
             && self.down.is_same(&other.down, g)
             && self.names.is_same(&other.names, g)
             && self.varied.is_same(&other.varied, g)
+            && self.sequences.is_same(&other.sequences, g)
+    }
+}
+
+impl<'t, A: Allocator> OpenTables<'t, A> {
+    /// Tells whether the parts of two contents have room in the tables of their union. They have in all tables but that of
+    /// variation sequences, of which two parts may have the same selector and code.
+    pub fn fits<K: Source, L: Source>(
+        &self,
+        other: &OpenTables<'_, A>,
+        first: &K,
+        second: &L,
+    ) -> bool
+        requires opened { AreOpen (K.content_of first.now).copied self.now }
+        requires other_opened { AreOpen (L.content_of second.now).copied other.now }
+        ensures { IsRoomOf sequences SEQUENCE_SLOT (K.content_of first.now) (L.content_of second.now) result }
+    {
+        self.sequences.fits(&other.sequences, first, second)
+    }
+}
+
+impl<'t, A: Memory + Copy> OpenTables<'t, A> {
+    /// Opens the tables of a font, or returns none where one is refused, which is none of an accepted font.
+    ///
+    /// # Errors
+    ///
+    /// `NoMemory` if there is no memory for an index of the variation sequences.
+    pub fn open<B: TablesBySlot<'t>>(
+        alloc: A,
+        tables: &B,
+    ) -> Result<Option<OpenTables<'t, A>>, NoMemory>
+        ensures opened { IfOk result (λ opened. MatchOption opened (has_refused (B.tables_in tables.now) ≡ true)
+            (λ parts. AreOpen (B.tables_in tables.now) parts × (has_refused (B.tables_in tables.now) ≡ false))) }
+        ensures memory { OnErr result (IsRefused A.refuses) }
+    {
+        let sequences = HeldSequences::open(alloc, tables.sequences(), tables.glyph_count())?;
+        Ok(OpenTables::with(tables, sequences))
+    }
+
+    /// Opens the tables of a content.
+    ///
+    /// # Errors
+    ///
+    /// `NoMemory` if there is no memory for an index of the variation sequences.
+    pub fn of<S: Source>(alloc: A, source: &'t S) -> Result<OpenTables<'t, A>, NoMemory>
+        requires { AreFine (S.content_of source.now).copied }
+        ensures opened { IfOk result (AreOpen (S.content_of source.entry.now).copied) }
+        ensures memory { OnErr result (IsRefused A.refuses) }
+    {
+        match OpenTables::open(alloc, &TablesOf::new(source))? {
+            Some(tables) => Ok(tables),
+            // The tables have been accepted before.
+            None => unreachable!(),
+        }
     }
 }
 
@@ -124,7 +205,7 @@ impl<'t> OpenTables<'t> {
 fn is_divided(slot: usize) -> bool
     ensures { result ≡ may_divide slot }
 {
-    slot == GVAR || slot == HMTX || slot == POST || slot == VMTX
+    slot == GVAR || slot == HMTX || slot == POST || slot == VMTX || slot == SEQUENCES
 }
 
 // Returns the bytes of a vector, where there is one.
@@ -204,6 +285,7 @@ pub struct MadeTables<A: Allocator> {
     hmtx: Option<Vec<u8, A>>,
     post: Option<Vec<u8, A>>,
     vmtx: Option<Vec<u8, A>>,
+    sequences: Option<Vec<u8, A>>,
 }
 
 // Its value is the bytes of each.
@@ -218,6 +300,7 @@ impl<A: Allocator> Model for MadeTables<A> {
       hmtx = option_map (λ v. v.items) t.hmtx;
       post = option_map (λ v. v.items) t.post;
       vmtx = option_map (λ v. v.items) t.vmtx;
+      sequences = option_map (λ v. v.items) t.sequences;
     } };
 
     ghost invariant = { λ t. AreShort (record {
@@ -225,6 +308,7 @@ impl<A: Allocator> Model for MadeTables<A> {
       hmtx = option_map (λ v. v.items) t.hmtx;
       post = option_map (λ v. v.items) t.post;
       vmtx = option_map (λ v. v.items) t.vmtx;
+      sequences = option_map (λ v. v.items) t.sequences;
     }) };
 }
 
@@ -235,6 +319,7 @@ impl<A: Allocator> Drop for MadeTables<A> {
             hmtx: _hmtx,
             post: _post,
             vmtx: _vmtx,
+            sequences: _sequences,
         } = self;
     }
 }
@@ -249,6 +334,7 @@ impl<A: Allocator> MadeTables<A> {
             hmtx: None,
             post: None,
             vmtx: None,
+            sequences: None,
         }
     }
 
@@ -268,6 +354,9 @@ impl<A: Allocator> MadeTables<A> {
         }
         if slot == VMTX {
             return bytes_of(&self.vmtx);
+        }
+        if slot == SEQUENCES {
+            return bytes_of(&self.sequences);
         }
         None
     }
@@ -294,18 +383,21 @@ impl<A: Allocator> MadeTables<A> {
             hmtx,
             post,
             vmtx,
+            sequences,
         } = self;
         let MadeTables {
             gvar: made_gvar,
             hmtx: made_hmtx,
             post: made_post,
             vmtx: made_vmtx,
+            sequences: made_sequences,
         } = made;
         MadeTables {
             gvar: made_or_laid(made_gvar, gvar, file.copied(GVAR)),
             hmtx: made_or_laid(made_hmtx, hmtx, file.copied(HMTX)),
             post: made_or_laid(made_post, post, file.copied(POST)),
             vmtx: made_or_laid(made_vmtx, vmtx, file.copied(VMTX)),
+            sequences: made_or_laid(made_sequences, sequences, file.copied(SEQUENCES)),
         }
     }
 }
@@ -320,7 +412,7 @@ impl<A: Memory + Copy> MadeTables<A> {
     pub fn kept<S: Source>(
         alloc: A,
         source: &S,
-        tables: &OpenTables<'_>,
+        tables: &OpenTables<'_, A>,
     ) -> Result<MadeTables<A>, NoMemory>
         requires opened { AreOpen (S.content_of source.now).copied tables.now }
         requires fine { AreFine (S.content_of source.now).copied }
@@ -331,11 +423,13 @@ impl<A: Memory + Copy> MadeTables<A> {
         let post = tables.names.kept(alloc, source)?;
         let vmtx = tables.down.kept(alloc, source)?;
         let gvar = tables.varied.kept(alloc, source)?;
+        let sequences = tables.sequences.kept(alloc, source)?;
         Ok(MadeTables {
             gvar,
             hmtx,
             post,
             vmtx,
+            sequences,
         })
     }
 
@@ -353,11 +447,13 @@ impl<A: Memory + Copy> MadeTables<A> {
         let post = copy_of(alloc, source.copied(POST))?;
         let vmtx = copy_of(alloc, source.copied(VMTX))?;
         let gvar = copy_of(alloc, source.copied(GVAR))?;
+        let sequences = copy_of(alloc, source.copied(SEQUENCES))?;
         Ok(MadeTables {
             gvar,
             hmtx,
             post,
             vmtx,
+            sequences,
         })
     }
 
@@ -372,16 +468,18 @@ impl<A: Memory + Copy> MadeTables<A> {
             ≡ frames finest (S.content_of source.now).copied) }
         ensures memory { OnErr result (IsRefused A.refuses) }
     {
-        let tables = OpenTables::of(source);
+        let tables = OpenTables::of(alloc, source)?;
         let hmtx = tables.across.frame(alloc, source)?;
         let post = tables.names.frame(alloc, source)?;
         let vmtx = tables.down.frame(alloc, source)?;
         let gvar = tables.varied.frame(alloc, source)?;
+        let sequences = tables.sequences.frame(alloc, source)?;
         Ok(MadeTables {
             gvar,
             hmtx,
             post,
             vmtx,
+            sequences,
         })
     }
 
@@ -402,17 +500,21 @@ impl<A: Memory + Copy> MadeTables<A> {
         ensures tables { IfOk result (AreUnionOf (K.content_of first.now) (L.content_of second.now)) }
         ensures memory { OnErr result (IsRefused A.refuses) }
     {
-        let one = OpenTables::of(first);
-        let other = OpenTables::of(second);
+        let one = OpenTables::of(alloc, first)?;
+        let other = OpenTables::of(alloc, second)?;
         let hmtx = one.across.united(&other.across, alloc, first, second)?;
         let post = one.names.united(&other.names, alloc, first, second)?;
         let vmtx = one.down.united(&other.down, alloc, first, second)?;
         let gvar = one.varied.united(&other.varied, alloc, first, second)?;
+        let sequences = one
+            .sequences
+            .united(&other.sequences, alloc, first, second)?;
         Ok(MadeTables {
             gvar,
             hmtx,
             post,
             vmtx,
+            sequences,
         })
     }
 }

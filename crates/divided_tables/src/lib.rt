@@ -5,9 +5,19 @@
 
 mod all_tables;
 mod glyph_variations;
+mod held_sequences;
 mod metrics;
 mod names;
+mod open_sequences;
 mod parted_table;
+mod sequence_index;
+mod sequence_reading;
+mod sequence_tables;
+#[cfg(test)]
+mod sequence_tests;
+mod sequence_union;
 
 pub use crate::all_tables::{MadeTables, OpenTables};
 pub use crate::parted_table::{OpenFrom, PartedTable, TablesBySlot};
+pub use crate::sequence_reading::CodeMap;
+pub use crate::sequence_tables::table_of_font;

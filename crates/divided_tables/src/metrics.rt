@@ -175,8 +175,8 @@ fn are_zero(bytes: &[u8], pairs: usize, from: usize, to: usize) -> bool
 /// Which table of metrics: the slots of its header, and of the table itself.
 pub trait Way {
     ghost use Rattle.std.specs.Prelude.{◌≡◌, ℕ, false};
-    ghost use Rattle.sfnt_bytes.specs.Directory.{is_layout_slot};
     ghost use Rattle.font_theory.specs.Parting.{may_divide};
+    ghost use Rattle.divided_tables.specs.PartedTable.{is_read_apart};
 
     ghost HEADER: { ℕ };
 
@@ -185,10 +185,10 @@ pub trait Way {
     /// The header is read of tables that are not divided.
     ghost header_whole: { may_divide HEADER ≡ false };
 
-    /// Neither is a table of layout.
-    ghost header_plain: { is_layout_slot HEADER ≡ false };
+    /// Both are read as they stand in the file.
+    ghost header_plain: { is_read_apart HEADER ≡ false };
 
-    ghost slot_plain: { is_layout_slot SLOT ≡ false };
+    ghost slot_plain: { is_read_apart SLOT ≡ false };
 
     /// The slot of the header.
     const HEADER: usize;

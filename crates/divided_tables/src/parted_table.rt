@@ -1,18 +1,20 @@
 //! One divided table: what is told of it where it is open, and what is made of it. This is this project's own.
-ghost use Rattle.std.specs.Prelude.{◌≡◌, [], length, option_copied, unwrap_or};
-ghost use Rattle.sfnt_bytes.specs.Directory.{is_layout_slot};
+ghost use Rattle.std.specs.Prelude.{◌≡◌, [], length, option_copied, unwrap_or, None, Some, MatchOption};
 ghost use Rattle.font_theory.specs.Content.{glyph_count};
 ghost use Rattle.font_theory.specs.Parting.{Tables};
+ghost use Rattle.font_theory.specs.declared.kinds.TheConstants.{SEQUENCES as SEQUENCE_SLOT};
 
+use font_theory::SEQUENCES;
 use font_write::Source;
 use sfnt_bytes::{Memory, NoMemory};
 
-/// The tables of a font by slot, but for those of layout.
+/// The tables of a font by slot, but for those of layout, and its variation sequences.
 pub trait TablesBySlot<'t> {
-    ghost use Rattle.std.specs.Prelude.{◌≡◌, false, option_copied};
-    ghost use Rattle.sfnt_bytes.specs.Directory.{is_layout_slot};
+    ghost use Rattle.std.specs.Prelude.{◌≡◌, false, option_copied, None, Some, MatchOption};
     ghost use Rattle.font_theory.specs.Content.{glyph_count};
     ghost use Rattle.font_theory.specs.Parting.{Tables};
+    ghost use Rattle.font_theory.specs.declared.kinds.TheConstants.{SEQUENCES as SEQUENCE_SLOT};
+    ghost use Rattle.divided_tables.specs.PartedTable.{is_read_apart};
 
     /// The tables.
     ghost tables_in: { Self → Tables };
@@ -23,8 +25,13 @@ pub trait TablesBySlot<'t> {
 
     /// Returns the table of a slot.
     fn table(&self, slot: usize) -> Option<&'t [u8]>
-        requires { is_layout_slot slot ≡ false }
+        requires { is_read_apart slot ≡ false }
         ensures { option_copied result ≡ tables_in self.now slot };
+
+    /// Returns the table of variation sequences, which is made of `cmap` and so may be held by this alone.
+    fn sequences(&self) -> Option<&[u8]>
+        ensures { MatchOption result (tables_in self.now SEQUENCE_SLOT ≡ None)
+            (λ b. tables_in self.now SEQUENCE_SLOT ≡ Some b.now) };
 }
 
 /// The tables of a content.
@@ -51,6 +58,10 @@ impl<'t, S: Source> TablesBySlot<'t> for TablesOf<'t, S> {
 
     fn table(&self, slot: usize) -> Option<&'t [u8]> {
         self.source.copied(slot)
+    }
+
+    fn sequences(&self) -> Option<&[u8]> {
+        self.source.copied(SEQUENCES)
     }
 }
 

@@ -4,16 +4,16 @@ ghost use Rattle.streams.specs.Inlet.{inlet_fresh_of};
 
 use crate::asked::choice::{Choice, add_all_files, names_set};
 use crate::asked::dropped_tables::without_named;
-use crate::asked::glyph_numbers::{EVERYTHING, keeps_all_glyphs, listed, names_glyphs};
+use crate::asked::glyph_numbers::{EVERYTHING, keeps_all_glyphs, names_glyphs};
 use crate::messages::command_error::CommandError;
 use crate::outcome::Outcome;
 use crate::paths::inputs::{font_in, inlet_at, input_name, read_inlet};
-use crate::paths::kept_font::keep_font;
+use crate::paths::kept_font::replaces_font;
 use crate::paths::output::{outlet, packed_out, placed};
 use codes::Wanted;
 use command_line::{Subset, Verbosity};
 use commands::{CutRequest, run_subset_of_font};
-use font_coverage::{Asked, Coverage, Kept, WantedCodes, linked_count, losses};
+use font_coverage::{Asked, Coverage, Kept, WantedCodes, WantedSequences, linked_count, losses};
 use font_file::Font;
 use font_subset::keeps_layout;
 use font_texts::Shown;
@@ -23,31 +23,55 @@ use std::alloc::{AllocError, Global};
 use std::fs;
 use std::io::{Read, Write};
 use streams::Inlet;
-use wanted_characters::is_range_word;
+use wanted_characters::{is_range_word, numbers_of};
 
-// What a line keeps beside codes: the numbers of glyphs; and what is said of its options and files that name nothing.
+// What is said where lists name sequences, and cuts of the kind have none.
+const NO_SEQUENCES: &str =
+    "fontcut: full and lean cuts have no variation sequences: add --layout\n";
+
+// What a line keeps beside codes: the numbers of glyphs; what is said of its options and files that name nothing; and the
+// first sequences of its lists that the font lacks.
 #[derive(Drop)]
 struct Chosen {
     numbers: Vec<u16>,
     said: String,
+    lacking: Vec<(u32, u32)>,
 }
 
-// Returns what a line asks of a font, by the codes and the numbers of glyphs that it keeps.
-fn request_of<'w>(
+impl Chosen {
+    // Adds the glyphs of sequences, and those that the font lacks.
+    fn add_variants(
+        &mut self,
+        alloc: Global,
+        variants: &WantedSequences,
+    ) -> Result<(), AllocError> {
+        self.numbers.extend_from_slice(&variants.glyphs(alloc)?)?;
+        self.lacking.extend_from_slice(&variants.lacking)?;
+        Ok(())
+    }
+}
+
+// The cut that a line asks for: its kind, the font, the codes that it keeps, and what it keeps beside them.
+#[derive(Clone, Copy)]
+struct AskedCut<'l, 'a, 'f> {
     kind: Kind,
-    line: &Subset<'_>,
-    codes: &'w Wanted,
-    numbers: &'w [u16],
-) -> CutRequest<'w> {
-    let glyphs = if keeps_all_glyphs(line) {
+    line: &'l Subset<'a>,
+    font: &'l Font<'f>,
+    wanted: &'l WantedCodes,
+    chosen: &'l Chosen,
+}
+
+// Returns what is asked of the font, by the codes and the numbers of glyphs that are kept.
+fn request_of<'l>(asked: AskedCut<'l, '_, '_>) -> CutRequest<'l> {
+    let glyphs: Option<&[u16]> = if keeps_all_glyphs(asked.line) {
         None
     } else {
-        Some(numbers)
+        Some(&asked.chosen.numbers)
     };
     CutRequest {
-        kind,
-        closes: line.is_closed && keeps_layout(kind),
-        codes,
+        kind: asked.kind,
+        closes: asked.line.is_closed && keeps_layout(asked.kind),
+        codes: asked.wanted.all(),
         glyphs,
     }
 }
@@ -55,31 +79,24 @@ fn request_of<'w>(
 // Sends the cut of a font to OUT, and answers its size.
 fn send_cut<'a, F: HeldFiles, I, O: Write + Copy + Drop>(
     system: &System<'a, F, I, O>,
-    kind: Kind,
-    line: &Subset<'a>,
-    font: &Font<'_>,
-    wanted: &WantedCodes,
-    numbers: &[u16],
+    asked: AskedCut<'_, 'a, '_>,
 ) -> Result<u64, CommandError<'a>> {
+    let line = asked.line;
     let mut outlet = outlet(system, line.out)?;
-    let request = request_of(kind, line, wanted.all(), numbers);
-    let sent = run_subset_of_font(system.alloc, font, &request, &mut outlet);
+    let request = request_of(asked);
+    let sent = run_subset_of_font(system.alloc, asked.font, &request, &mut outlet);
     let size = sent.map_err(|error| CommandError::of_run(line.font, line.out, error))?;
     placed(system, outlet, line.out)?;
     Ok(size)
 }
 
-// Returns the number of glyphs that a closed cut for codes alone keeps by links, where a line reports it.
-fn reported_links(
-    alloc: Global,
-    kind: Kind,
-    line: &Subset<'_>,
-    font: &Font<'_>,
-    wanted: &Wanted,
-) -> Result<Option<usize>, AllocError> {
+// Returns the number of glyphs that a closed cut for codes and sequences alone keeps by links, where a line reports it.
+fn reported_links(alloc: Global, asked: AskedCut<'_, '_, '_>) -> Result<Option<usize>, AllocError> {
+    let line = asked.line;
     let is_of_codes = line.is_closed && !names_glyphs(line);
-    if line.reports && keeps_layout(kind) && is_of_codes {
-        return linked_count(alloc, kind, font, wanted);
+    if line.reports && keeps_layout(asked.kind) && is_of_codes {
+        let (wanted, numbers) = (asked.wanted.all(), &asked.chosen.numbers);
+        return linked_count(alloc, asked.kind, asked.font, wanted, numbers);
     }
     Ok(None)
 }
@@ -108,7 +125,15 @@ fn note_paths_as_texts<F: HeldFiles>(
     Ok(())
 }
 
-// Returns what is said of the options and files of a line that name nothing or likely something else.
+// Adds a note that the cut of a font replaces it.
+fn add_replaced(said: &mut String, font: &str) -> Result<(), AllocError> {
+    let name = Shown(font);
+    write!(said, "fontcut: {name} is replaced by its cut\n")?;
+    Ok(())
+}
+
+// Returns what is said of the options and files of a line that name nothing or likely something else, and where the cut
+// replaces the font.
 fn notes_of<F: HeldFiles, I, O>(
     system: &System<'_, F, I, O>,
     line: &Subset<'_>,
@@ -125,43 +150,37 @@ fn notes_of<F: HeldFiles, I, O>(
 // Cuts a font for the codes and the glyphs that are wanted, and reports on the cut.
 fn cut_and_report<'a, F: HeldFiles, I, O: Write + Copy + Drop>(
     system: &System<'a, F, I, O>,
-    kind: Kind,
-    line: &Subset<'a>,
-    font: &Font<'_>,
-    wanted: &WantedCodes,
-    chosen: &Chosen,
+    asked: AskedCut<'_, 'a, '_>,
     mut coverage: Coverage,
 ) -> Result<Outcome, CommandError<'a>> {
-    coverage.begin_with(notes_of(system, line, chosen)?)?;
-    let linked = reported_links(system.alloc, kind, line, font, wanted.all())?;
-    let size = send_cut(system, kind, line, font, wanted, &chosen.numbers)?;
-    let text = coverage.with_cut(kind, linked, size)?;
+    coverage.begin_with(notes_of(system, asked.line, asked.chosen)?)?;
+    let linked = reported_links(system.alloc, asked)?;
+    let size = send_cut(system, asked)?;
+    let text = coverage.with_cut(asked.kind, linked, size)?;
     Ok(Outcome::saying(true, text))
 }
 
 // Returns what is said of a cut without being asked.
 fn said_of_cut<F: HeldFiles, I, O>(
     system: &System<'_, F, I, O>,
-    kind: Kind,
-    line: &Subset<'_>,
-    font: &Font<'_>,
-    wanted: &WantedCodes,
-    chosen: &Chosen,
+    asked: AskedCut<'_, '_, '_>,
 ) -> Result<String, AllocError> {
+    let (line, wanted) = (asked.line, asked.wanted);
     if line.verbosity == Verbosity::Quiet {
         return Ok(String::new(system.alloc));
     }
-    let asked = Asked {
+    let of_font = Asked {
         name: input_name(line.font),
-        kind,
+        kind: asked.kind,
         wanted: wanted.all(),
         named: wanted.named(),
         texts: wanted.texts(),
+        lacking: &asked.chosen.lacking,
         has_numbers: names_glyphs(line),
         says_more: line.verbosity == Verbosity::Verbose,
     };
-    let mut said = notes_of(system, line, chosen)?;
-    let lost = losses(system.alloc, font, asked)?;
+    let mut said = notes_of(system, line, asked.chosen)?;
+    let lost = losses(system.alloc, asked.font, of_font)?;
     said.push_str(lost.as_str())?;
     Ok(said)
 }
@@ -169,14 +188,10 @@ fn said_of_cut<F: HeldFiles, I, O>(
 // Cuts a font for the codes and the glyphs that are wanted, and says what the cut drops that these need.
 fn cut_and_say<'a, F: HeldFiles, I, O: Write + Copy + Drop>(
     system: &System<'a, F, I, O>,
-    kind: Kind,
-    line: &Subset<'a>,
-    font: &Font<'_>,
-    wanted: &WantedCodes,
-    chosen: &Chosen,
+    asked: AskedCut<'_, 'a, '_>,
 ) -> Result<Outcome, CommandError<'a>> {
-    let said = said_of_cut(system, kind, line, font, wanted, chosen)?;
-    send_cut(system, kind, line, font, wanted, &chosen.numbers)?;
+    let said = said_of_cut(system, asked)?;
+    send_cut(system, asked)?;
     Ok(Outcome::noting(true, said))
 }
 
@@ -186,27 +201,37 @@ fn is_refused(line: &Subset<'_>, coverage: &Coverage) -> bool {
     line.is_strict && !is_enough && !coverage.is_whole()
 }
 
-// Cuts a font for the codes that are kept and for glyphs, and reports on the codes.
+// Cuts a font as is asked, and reports on the codes, of which this is said.
 fn cut_counted<'a, F: HeldFiles, I, O: Write + Copy + Drop>(
     system: &System<'a, F, I, O>,
-    kind: Kind,
-    line: &Subset<'a>,
-    font: &Font<'_>,
-    kept: Kept,
-    chosen: &Chosen,
+    asked: AskedCut<'_, 'a, '_>,
+    mut coverage: Coverage,
 ) -> Result<Outcome, CommandError<'a>> {
-    let shows_characters = line.verbosity == Verbosity::Verbose;
-    let mut coverage = Coverage::of(system.alloc, font, &kept, kind, shows_characters)?;
-    let wanted = kept.into_wanted(system.alloc)?;
-    coverage.add_lost(font, wanted.all())?;
-    if is_refused(line, &coverage) {
+    coverage.add_lost(asked.font, asked.kind, asked.wanted.all())?;
+    if is_refused(asked.line, &coverage) {
         let text = coverage.unwritten_text(system.alloc)?;
         return Ok(Outcome::saying(false, text));
     }
-    if !line.reports {
-        return cut_and_say(system, kind, line, font, &wanted, chosen);
+    if !asked.line.reports {
+        return cut_and_say(system, asked);
     }
-    cut_and_report(system, kind, line, font, &wanted, chosen, coverage)
+    cut_and_report(system, asked, coverage)
+}
+
+// Returns what is said of the codes that are kept, where a line reports on them or is strict.
+fn coverage_of(
+    alloc: Global,
+    kind: Kind,
+    line: &Subset<'_>,
+    font: &Font<'_>,
+    kept: &Kept,
+    variants: &WantedSequences,
+) -> Result<Option<Coverage>, AllocError> {
+    if !line.reports && !line.is_strict {
+        return Ok(None);
+    }
+    let shows_characters = line.verbosity == Verbosity::Verbose;
+    Coverage::of(alloc, font, kept, variants, kind, shows_characters).map(Some)
 }
 
 // Cuts a font, whose file this is, for the codes that are kept and for glyphs, as a line asks for it.
@@ -216,14 +241,23 @@ fn cut_file<'a, F: HeldFiles, I, O: Write + Copy + Drop>(
     line: &Subset<'a>,
     file: &[u8],
     kept: Kept,
-    chosen: &Chosen,
+    mut chosen: Chosen,
 ) -> Result<Outcome, CommandError<'a>> {
     let font = font_in(line.font, file)?;
-    if line.reports || line.is_strict {
-        return cut_counted(system, kind, line, &font, kept, chosen);
+    let variants = WantedSequences::of_kept(system.alloc, &font, kind, &kept)?;
+    chosen.add_variants(system.alloc, &variants)?;
+    let coverage = coverage_of(system.alloc, kind, line, &font, &kept, &variants)?;
+    let asked = AskedCut {
+        kind,
+        line,
+        font: &font,
+        wanted: &kept.into_wanted(system.alloc)?,
+        chosen: &chosen,
+    };
+    match coverage {
+        Some(coverage) => cut_counted(system, asked, coverage),
+        None => cut_and_say(system, asked),
     }
-    let wanted = kept.into_wanted(system.alloc)?;
-    cut_and_say(system, kind, line, &font, &wanted, chosen)
 }
 
 // Looks at the OUT of a line, and at whether it names a set of characters or glyphs that cuts of its kind can have.
@@ -244,26 +278,38 @@ fn check_line<'a>(kind: Kind, line: &Subset<'a>) -> Result<(), CommandError<'a>>
 // Returns what a line keeps, with what its files name.
 fn all_kept<'a, F: HeldFiles, I: Read + Copy + Drop, O>(
     system: &System<'a, F, I, O>,
+    kind: Kind,
     line: &Subset<'a>,
     mut choice: Choice,
 ) -> Result<(Kept, Chosen), CommandError<'a>> {
     add_all_files(system, line, &mut choice)?;
-    let (kept, glyphs, said) = choice.left(system.alloc)?;
-    let numbers = listed(system.alloc, &glyphs)?;
-    Ok((kept, Chosen { numbers, said }))
+    let (kept, glyphs, mut said) = choice.left(system.alloc)?;
+    if !keeps_layout(kind) && !kept.listed.is_empty() {
+        said.push_str(NO_SEQUENCES)?;
+    }
+    let numbers = numbers_of(system.alloc, &glyphs)?;
+    let chosen = Chosen {
+        numbers,
+        said,
+        lacking: Vec::new(system.alloc),
+    };
+    Ok((kept, chosen))
 }
 
-// Reads a font into memory, without the tables that a line drops.
+// Reads a font into memory, without the tables that a line drops, and says where a cut replaces it.
 fn held_file<'a, F: HeldFiles, I, O, R: Read>(
     system: &System<'a, F, I, O>,
     kind: Kind,
     line: &Subset<'a>,
     inlet: &mut Inlet<R>,
+    said: &mut String,
 ) -> Result<Vec<u8>, CommandError<'a>>
     requires { inlet_fresh_of inlet.old ≡ true }
 {
     let whole = read_inlet(system.alloc, inlet, line.font)?;
-    keep_font(system, kind, line, &whole)?;
+    if replaces_font(system, kind, line, &whole)? {
+        add_replaced(said, line.font)?;
+    }
     without_named(system.alloc, line.font, whole, &line.dropped)
 }
 
@@ -280,7 +326,7 @@ pub(crate) fn subset<'a, F: HeldFiles, I: Read + Copy + Drop, O: Write + Copy + 
     check_line(kind, line)?;
     let choice = Choice::of(system.alloc, line)?;
     let mut inlet = inlet_at(system, line.font)?;
-    let (kept, chosen) = all_kept(system, line, choice)?;
-    let file = held_file(system, kind, line, &mut inlet)?;
-    cut_file(system, kind, line, &file, kept, &chosen)
+    let (kept, mut chosen) = all_kept(system, kind, line, choice)?;
+    let file = held_file(system, kind, line, &mut inlet, &mut chosen.said)?;
+    cut_file(system, kind, line, &file, kept, chosen)
 }

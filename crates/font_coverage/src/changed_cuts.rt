@@ -1,6 +1,7 @@
 //! Cuts that were changed: fonts that are in no form of a cut, and have the tables and the `cmap` of one.
 use crate::coverage_lines::{is_of_layout, is_of_variations};
 use crate::cut_kinds::cut_kind;
+use crate::sequences::has_sequence;
 use font_file::Font;
 use font_subset::{CutError, FontToCut, OpenError, cut_of_kind};
 use font_texts::{long_at, table_named};
@@ -15,6 +16,11 @@ const CURRENT: &[u8] = &[
 ];
 
 const FIRST: &[u8] = &[0, 0, 0, 1, 0, 3, 0, 10, 0, 0, 0, 12, 0, 12, 0, 0];
+
+// The same with variation sequences, before the offset to these and after it.
+const BEFORE_OFFSET: &[u8] = &[0, 0, 0, 3, 0, 0, 0, 4, 0, 0, 0, 28, 0, 0, 0, 5];
+
+const AFTER_OFFSET: &[u8] = &[0, 3, 0, 10, 0, 0, 0, 28, 0, 12, 0, 0];
 
 // The version of a `post` without names.
 const NAMELESS: usize = 0x3_0000;
@@ -32,9 +38,15 @@ pub enum FileForm {
     Font,
 }
 
+// Returns whether a `cmap` begins as that of a cut with variation sequences.
+fn is_cmap_with_sequences(cmap: &[u8]) -> bool {
+    let after = cmap.get(BEFORE_OFFSET.len() + 4..).unwrap_or(&[]);
+    cmap.starts_with(BEFORE_OFFSET) && after.starts_with(AFTER_OFFSET)
+}
+
 /// Returns whether a `cmap` begins as that of a cut.
 pub fn is_cmap_of_cut(cmap: &[u8]) -> bool {
-    cmap.starts_with(CURRENT) || cmap.starts_with(FIRST)
+    cmap.starts_with(CURRENT) || cmap.starts_with(FIRST) || is_cmap_with_sequences(cmap)
 }
 
 // Returns whether a directory has the `cmap` of a cut.
@@ -53,9 +65,11 @@ pub fn may_be_cut(file: &[u8]) -> bool {
     }
 }
 
-// Returns the kind of which a font without layout is a cut, if it is one.
+// Returns the kind of which a font without layout tables is a cut, if it is one.
 fn plain_kind(font: &Font<'_>) -> Kind {
-    if long_at(table_named(font, Tag(*b"post")), 0) == NAMELESS {
+    if has_sequence(font) {
+        Kind::Layout
+    } else if long_at(table_named(font, Tag(*b"post")), 0) == NAMELESS {
         Kind::Lean
     } else {
         Kind::Full

@@ -1,8 +1,10 @@
 //! The kinds of cuts that a font is.
 use crate::coverage_lines::keeps_table;
+use crate::sequences::has_sequence;
 use font_file::Font;
 use font_subset::{
     CutError, CutForm, FontOfKind, FontToCut, OpenError, belongs, cut_of_kind, form_of_kind,
+    keeps_layout,
 };
 use font_theory::Kind;
 use sfnt_bytes::NoMemory;
@@ -56,19 +58,20 @@ fn is_rather_full(alloc: Global, font: &Font<'_>, is_lean: bool) -> Result<bool,
     Ok(has_form(alloc, Kind::Full, font)? && !(is_lean && is_lean_for_codes(alloc, font)?))
 }
 
-// Returns whether a font has a table that cuts of a kind keep and full ones drop. Without one it is a cut of the kind
-// exactly if it is a lean one.
+// Returns whether a font has a table or variation sequences that cuts of a kind keep and full ones drop. Without these it is
+// a cut of the kind exactly if it is a lean one.
 fn has_more(kind: Kind, font: &Font<'_>) -> bool {
     for entry in font.tables().directory().dropped() {
         if keeps_table(kind, entry.tag) {
             return true;
         }
     }
-    false
+    keeps_layout(kind) && has_sequence(font)
 }
 
-/// Returns the kind of a font that is a cut. Where the font has no table of layout, a lean cut has the form of a layout
-/// cut too, and a layout cut of a font without variations has that of a variable one: the first kind is returned.
+/// Returns the kind of a font that is a cut. Where the font has no table of layout and no sequence, a lean cut has the form
+/// of a layout cut too, and a layout cut of a font without variations has that of a variable one: the first kind is
+/// returned.
 ///
 /// # Errors
 /// `NoMemory` if out of memory.

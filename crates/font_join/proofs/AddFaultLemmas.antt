@@ -37,10 +37,13 @@ module _ (R : Format) (K : Content) (y : List ℕ) where
 
   -- where tables and codes do not differ, a glyph does, or else a table has no room
   pub late : form_fault R Second y ≡ None → (glyph misfit : Option ℕ)
-      → difference K (content_of_all R y) ≡ option_map AtGlyph glyph → misfit ≡ R.misfit (both K (content_of_all R y))
-      → add_fault R K y ≡ late_fault glyph misfit
+      → difference K (content_of_all R y) ≡ option_map AtGlyph glyph
+      → (glyph ≡ None → misfit ≡ R.misfit (both K (content_of_all R y))) → add_fault R K y ≡ late_fault glyph misfit
   unfolding add_fault
-  late e glyph misfit d m = (λ i. lines_at (e i) (d i) (sym m i)) ∙ lines_at-late glyph misfit
+  late e None misfit d m = (λ i. lines_at (e i) (d i) (sym (m refl) i)) ∙ lines_at-late None misfit
+  late e (Some g) misfit d m =
+      (λ i. lines_at (e i) (d i) (R.misfit (both K (content_of_all R y))))
+      ∙ lines_at-late (Some g) (R.misfit (both K (content_of_all R y)))
 
   pub late_refused : (glyph misfit : Option ℕ) (error : JoinError) → add_fault R K y ≡ late_fault glyph misfit
       → late_fault glyph misfit ≡ Some error → IsAddRefusal R K y error

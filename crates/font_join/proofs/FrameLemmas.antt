@@ -10,21 +10,27 @@ use Rattle.sfnt_bytes.specs.Lines.{first_of_lines}
 use Rattle.sfnt_bytes.specs.declared.tag.TheConstants.{ALL_SLOTS, HEAD, MAXP}
 use Rattle.font_tables.specs.Fields.{num_glyphs}
 use Rattle.font_theory.specs.Content.{Content, IsWritable, KeepsComponents, glyph_count, is_never_copied}
-use Rattle.font_theory.specs.Cut.{Arises}
+use Rattle.font_theory.specs.Content.{table_in_slot}
+use Rattle.font_theory.specs.Cut.{Arises, Format, IsFormat}
+use Rattle.font_theory.specs.Cut.Arises.{of_file, of_two}
 use Rattle.font_theory.specs.Difference.{is_different_code, is_different_table}
 use Rattle.font_theory.specs.Kinds.{divides_tables, format_of, partition_of, read_by, settings}
-use Rattle.font_theory.specs.Kinds.{spelled_by}
+use Rattle.font_theory.specs.Kinds.{spelled_by, variable_settings}
 use Rattle.font_theory.specs.Kinds.Reading.{absent}
-use Rattle.font_theory.specs.Parting.{Partition, Tables, frames, wholes}
+use Rattle.font_theory.specs.Parted.{sequences}
+use Rattle.font_theory.specs.Parting.{IsPartition, Partition, Tables, frames, wholes}
+use Rattle.font_theory.specs.SequenceTable.{is_bad_sequences}
 use Rattle.font_theory.specs.declared.Difference.{Difference}
 use Rattle.font_theory.specs.declared.Difference.TheVariants.{AtTable}
 use Rattle.font_theory.specs.declared.kinds.Kind.{Kind}
+use Rattle.font_theory.specs.declared.kinds.Kind.TheVariants.{Variable}
+use Rattle.font_theory.specs.declared.kinds.TheConstants.{SEQUENCES}
 use Rattle.font_theory.proofs.ArisesLemmas.{IsClosed-arises}
 use Rattle.font_theory.proofs.DifferenceLemmas.{first_slot-none}
 use Rattle.font_theory.proofs.KindLemmas.{kind_is, settings-are, undivided-kind}
 use Rattle.font_theory.proofs.PartLemmas.{frames-other, frames-wholes, glyph_count-alike, never-divided, wholes-other}
 use Rattle.font_theory.proofs.PartLemmas.{wholes-undivided}
-use Rattle.font_theory.proofs.PartedLemmas.{IsPartition-variations}
+use Rattle.font_theory.proofs.SequencePartLemmas.{good_none}
 use Rattle.font_theory.proofs.SettingsLemmas.{AreRead-by, IsDivided-by}
 use Rattle.divided_tables.specs.DividedTables.{finest}
 use Rattle.divided_tables.proofs.KindPartLemmas.{frames_as}
@@ -32,23 +38,50 @@ use Rattle.font_join.specs.Inside.{early_difference}
 use Rattle.font_join.specs.KindInside.{SpellsIn, framed}
 
 -- there are as many glyphs by frames
+IsPartition-finest : IsPartition finest
+unfolding variable_settings
+IsPartition-finest = (settings-are Variable).partition
+
 pub count_framed : (c : Tables) → glyph_count (frames finest c) ≡ glyph_count c
-count_framed c = glyph_count-alike c (frames finest c) (frames-other finest IsPartition-variations c)
+count_framed c = glyph_count-alike c (frames finest c) (frames-other finest IsPartition-finest c)
+
+-- a frame has nothing of variation sequences
+good_framed : (c : Tables) (n : ℕ) → is_bad_sequences (table_in_slot (frames finest c) SEQUENCES) n ≡ false
+unfolding frames sequences
+good_framed c n = go (c SEQUENCES)
+  where
+    go : (o : Option (List ℕ)) → is_bad_sequences (unwrap_or (option_map (λ _. []) o) []) n ≡ false
+    go None = good_none n
+    go (Some t) = good_none n
 
 -- a content without what is of single glyphs in its tables can be written
 pub writable_framed : (K : Content) → IsWritable K → IsWritable (framed K)
 writable_framed K ok = record {
   mapped_below = λ c. subst (λ (n : ℕ). K.map c < n) (sym (count_framed K.copied)) (ok.mapped_below c);
   mapped_codes = ok.mapped_codes;
-  slots = λ slot never. frames-other finest IsPartition-variations K.copied slot (never-divided slot never)
+  slots = λ slot never. frames-other finest IsPartition-finest K.copied slot (never-divided slot never)
       ∙ ok.slots slot never;
   head_form = ok.head_form;
   head_size = ok.head_size;
+  sequences = good_framed K.copied (glyph_count (frames finest K.copied));
   past = λ g low. ok.past g (subst (λ (n : ℕ). n ≤ g) (count_framed K.copied) low);
 }
 
 pub components_framed : (K : Content) → KeepsComponents K → KeepsComponents (framed K)
 components_framed K h = record { notdef = h.notdef; mapped = h.mapped; components = h.components }
+
+-- what accepted files come to has the same variation sequences of no glyph
+module _ (R : Format) (law : IsFormat R) where
+  of_any : (K : Content) (X : List ℕ) → Arises R K → R.fault X ≡ None → K.copied SEQUENCES ≡ (R.font X).copied SEQUENCES
+  of_any K X (of_file Y wanted h e) ok =
+      ap (λ (C : Content). C.copied SEQUENCES) (sym e) ∙ law.same_sequences Y X h ok
+  of_any K X (of_two M N m n agree fit e) ok =
+      ap (λ (C : Content). C.copied SEQUENCES) (sym e) ∙ of_any M X m ok
+
+  pub same_sequences : (K L : Content) → Arises R K → Arises R L → K.copied SEQUENCES ≡ L.copied SEQUENCES
+  same_sequences K L k (of_file Y wanted h e) = of_any K Y k h ∙ ap (λ (C : Content). C.copied SEQUENCES) e
+  same_sequences K L k (of_two M N m n agree fit e) =
+      same_sequences K M k m ∙ ap (λ (C : Content). C.copied SEQUENCES) e
 
 -- the frames of what a content is written as are its tables
 module _ (k : Kind) (K : Content) where

@@ -1,10 +1,11 @@
 -- A cut that is merged into a union of cuts of its kind.
-use Rattle.std.proofs.Common.{◌≡◌, ℕ, ◌<◌, ◌≤◌, Bool, true, false, cond, List, [], find, length, Option}
+use Rattle.std.proofs.Common.{◌≡◌, ℕ, ◌<◌, ◌≤◌, Bool, true, false, cond, not, List, [], find, length, Option}
 use Rattle.std.proofs.Common.{None, Some, inl, inr, refl, sym, ap, ◌∙◌, subst, arith}
 use Rattle.std.proofs.lemmas.Bool.{cases_Bool}
 use Rattle.std.specs.List.{range_with_len}
 use Rattle.std.specs.Option.{option_map}
 use Rattle.std.proofs.Math.Path.{fun_ext}
+use Rattle.sfnt_bytes.specs.Lines.{when}
 use Rattle.sfnt_bytes.specs.declared.directory.TheConstants.{MAX_FILE}
 use Rattle.font_tables.specs.Fields.{glyph_count_of}
 use Rattle.codes.specs.CharacterMap.{AreCompatible, united}
@@ -16,29 +17,33 @@ use Rattle.font_theory.specs.Cut.{Arises, IsCut, content_of_all}
 use Rattle.font_theory.specs.Cut.Arises.{of_file, of_two}
 use Rattle.font_theory.specs.Difference.{difference}
 use Rattle.font_theory.specs.Agreement.{Agree, both}
-use Rattle.font_theory.specs.Parting.{IsPart, IsPartition, Tables, context, frames, may_divide}
+use Rattle.font_theory.specs.Parting.{IsPart, IsPartition, Tables, context, fits_at, frames, may_divide}
 use Rattle.font_theory.specs.declared.Difference.TheVariants.{AtGlyph}
 use Rattle.font_theory.proofs.ArisesLemmas.{IsClosed-arises}
 use Rattle.font_theory.proofs.ContentLemmas.{nothing_either, parts-path}
 use Rattle.font_theory.proofs.DifferenceLemmas.{Agree-from_none}
 use Rattle.font_subset.proofs.SourceLemmas.{count_as, fine_tables}
 use Rattle.font_theory.proofs.HeldLemmas.{parts-none}
-use Rattle.font_theory.proofs.KindLemmas.{kind_is, settings-are}
+use Rattle.font_theory.proofs.KindLemmas.{kind_is, misfit-is, sequences_read, settings-are}
 use Rattle.font_theory.proofs.PartLemmas.{context-alike, good-font, wholes-other}
-use Rattle.font_theory.proofs.SettingsLemmas.{IsClosed-by, IsDivided-by, there-written}
+use Rattle.font_theory.proofs.SettingsLemmas.{HasSequences-by, IsClosed-by, IsDivided-by, there-written}
 use Rattle.font_theory.specs.Kinds.{divides_tables, font_of, format_of, partition_of, settings, spelled_by, tables_of}
-use Rattle.font_theory.specs.Kinds.{there_by}
+use Rattle.font_theory.specs.Kinds.{keeps_sequences, there_by}
+use Rattle.font_theory.specs.Parted.{sequences}
+use Rattle.font_theory.specs.declared.kinds.TheConstants.{SEQUENCES}
 use Rattle.font_theory.specs.declared.kinds.Kind.{Kind}
+use Rattle.font_theory.specs.declared.kinds.Kind.TheVariants.{Full, Layout, Lean, Variable}
 use Rattle.map_union.specs.RunLists.{TwoLists, map_in}
 use Rattle.font_join.specs.Inside.{AreTaken, early_difference}
 use Rattle.divided_tables.specs.DividedTables.{AreFine, AreUnionOf, Made, all_laid, finest, replaced}
-use Rattle.divided_tables.specs.PartedTable.{AreJoinable}
-use Rattle.divided_tables.proofs.KindPartLemmas.{fine_font, part_at, parts_part, wholes_as}
+use Rattle.divided_tables.specs.PartedTable.{AreJoinable, IsRoomOf}
+use Rattle.divided_tables.proofs.KindPartLemmas.{fine_font, fits_as, part_at, parts_part, wholes_as}
 use Rattle.divided_tables.proofs.MadeLemmas.{frames_moved, united_by}
 use Rattle.font_join.specs.KindInside.{HasFrames, HoldsIn, IsGrown, IsOwn, IsUnion, SpellsIn, least_of, parts_told}
 use Rattle.font_join.specs.Union.{HasShortTables, Held, content_in, is_other, listed_outline, tables_in}
-use Rattle.font_join.proofs.FrameLemmas.{count_spelled, framed_spelled, same_count, undivided_spelled, unread_whole}
-use Rattle.font_join.proofs.ToldLemmas.{least_none, told_merged}
+use Rattle.font_join.proofs.FrameLemmas.{count_spelled, framed_spelled, same_count, same_sequences, undivided_spelled}
+use Rattle.font_join.proofs.FrameLemmas.{unread_whole}
+use Rattle.font_join.proofs.ToldLemmas.{all_tables, least_none, least_parts, parts_alike, past_tags, told_merged}
 use Rattle.font_join.proofs.OutlineListLemmas.{taken_whole}
 
 pub spells_file : (k : Kind) (y : List ℕ) → IsCut (format_of k) y
@@ -55,10 +60,14 @@ own_tables k c o some = sym (ap (λ b. tables_by b c o) some)
 pub first_tables : (k : Kind) (c : Tables) (o : Made) → divides_tables k ≡ false → c ≡ tables_in k c o
 first_tables k c o none = sym (ap (λ b. tables_by b c o) none)
 
--- whether the kind of a union divides tables, which is held as u and known as v
+-- what is told of the kind of a union, which is held as u and known as v
+pub told_of_kind : (f : Kind → Bool) (u v : Held) → u ≡ v → (k : Kind) (b : Bool) → k ≡ u.kind → b ≡ f k
+    → f v.kind ≡ b
+told_of_kind f u v same k b kind is = sym (is ∙ ap f (kind ∙ ap (λ (w : Held). w.kind) same))
+
 pub is_divided : (u v : Held) → u ≡ v → (k : Kind) (b : Bool) → k ≡ u.kind → b ≡ divides_tables k
     → divides_tables v.kind ≡ b
-is_divided u v same k b kind is = sym (is ∙ ap divides_tables (kind ∙ ap (λ (w : Held). w.kind) same))
+is_divided = told_of_kind divides_tables
 
 -- there are as many glyphs, whatever is in the slots of divided tables
 count_of_replaced : (c : Tables) (o : Made) → glyph_count (replaced c o) ≡ glyph_count c
@@ -74,12 +83,12 @@ count_in k c o = elim (cases_Bool (divides_tables k)) [
 
 -- what the union of two contents is written with, where their kind divides tables
 module _ (k : Kind) (some : divides_tables k ≡ true) (K L : Content) (first : Arises (format_of k) K)
-    (second : Arises (format_of k) L) (agree : Agree K L) where
+    (second : Arises (format_of k) L) (tables : (slot : ℕ) → K.copied slot ≡ L.copied slot) where
   abbrev is : IsPartition (partition_of k)
   is = (settings-are k).partition
 
   same_copied : L.copied ≡ K.copied
-  same_copied = sym (fun_ext agree.copied)
+  same_copied = sym (fun_ext tables)
 
   closed_of : (M : Content) → Arises (format_of k) M → IsClosedContent M
   closed_of M arises = IsClosed-arises (format_of k) (kind_is k).law.is_font M arises
@@ -98,9 +107,15 @@ module _ (k : Kind) (some : divides_tables k ≡ true) (K L : Content) (first : 
       (part_at (partition_of k) is M.copied slot g frame (M.parts slot g)
       ((IsDivided-by (settings k) (settings-are k) M arises).parts slot g) here low)
 
-  joinable : (slot : ℕ) → AreJoinable (finest slot) slot (spelled_by k K) (spelled_by k L) K.copied (K.parts slot)
-      (L.parts slot)
-  joinable slot = record {
+  fits_of : (M : Content) → Arises (format_of k) M → (slot : ℕ) (frame : List ℕ) → M.copied slot ≡ Some frame
+      → (finest slot).fits (context M.copied) frame (M.parts slot) ≡ true
+  fits_of M arises slot frame here = sym (fits_as k some M.copied (unread_whole k M arises) slot M.parts frame here)
+      ∙ (IsDivided-by (settings k) (settings-are k) M arises).fit slot
+
+  pub joinable : (slot : ℕ)
+      → ((g : ℕ) (a b : List ℕ) → K.outline g ≡ Some a → L.outline g ≡ Some b → K.parts slot g ≡ L.parts slot g)
+      → AreJoinable (finest slot) slot (spelled_by k K) (spelled_by k L) K.copied (K.parts slot) (L.parts slot)
+  joinable slot parts = record {
     context_first = context_of K;
     context_second = context_of L ∙ ap context same_copied;
     first = whole_of K first slot;
@@ -112,31 +127,38 @@ module _ (k : Kind) (some : divides_tables k ≡ true) (K L : Content) (first : 
     second_parts = λ frame g here low. subst (λ (c : Tables). IsPart (finest slot) (context c) frame g (L.parts slot g))
         same_copied (part_of L second slot g frame (ap (λ (c : Tables). c slot) same_copied ∙ here)
         (subst (λ (c : Tables). g < glyph_count c) (sym same_copied) low));
+    first_fits = λ frame here. fits_of K first slot frame here;
+    second_fits = λ frame here. subst (λ (c : Tables). (finest slot).fits (context c) frame (L.parts slot) ≡ true)
+        same_copied (fits_of L second slot frame (ap (λ (c : Tables). c slot) same_copied ∙ here));
     first_kept = λ g none. parts-none K (closed_of K first) g none slot;
     second_kept = λ g none. parts-none L (closed_of L second) g none slot;
-    same = λ g a b x y. agree.parts g a b x y slot;
+    same = parts;
   }
 
-  tables_written : (c : Tables) (o made : Made) → replaced c o ≡ (spelled_by k K).copied
+  tables_written : Agree K L → (format_of k).misfit (both K L) ≡ None → (c : Tables) (o made : Made)
+      → replaced c o ≡ (spelled_by k K).copied
       → AreUnionOf (spelled_by k K) (spelled_by k L) made
       → replaced c (all_laid (spelled_by k L).copied o made) ≡ (spelled_by k (both K L)).copied
-  tables_written c o made at union = united_by c o made (spelled_by k K) (spelled_by k L)
+  tables_written agree fit c o made at union = united_by c o made (spelled_by k K) (spelled_by k L)
       (spelled_by k (both K L)).copied at
-      (λ slot t. union slot t K.copied (K.parts slot) (L.parts slot) (joinable slot)
+      (λ slot t. union slot t K.copied (K.parts slot) (L.parts slot)
+      (joinable slot (λ g a b x y. agree.parts g a b x y slot))
+      (λ frame here. fits_of (both K L) (of_two K L first second agree fit refl) slot frame here)
       ∙ wholes_as k some K.copied (unread_whole k K first) (both K L).parts slot)
       (λ slot f. wholes-other (partition_of k) is K.copied K.parts slot f
       ∙ sym (wholes-other (partition_of k) is K.copied (both K L).parts slot f))
 
 tables_both : (k : Kind) (c : Tables) (o made : Made) (C K L : Content) → Arises (format_of k) K
-    → Arises (format_of k) L → Agree K L → C ≡ spelled_by k K → tables_in k c o ≡ C.copied
+    → Arises (format_of k) L → Agree K L → (format_of k).misfit (both K L) ≡ None → C ≡ spelled_by k K
+    → tables_in k c o ≡ C.copied
     → AreUnionOf C (spelled_by k L) made
     → tables_in k c (all_laid (spelled_by k L).copied o made) ≡ (spelled_by k (both K L)).copied
-tables_both k c o made C K L first second agree spells is union =
+tables_both k c o made C K L first second agree fit spells is union =
     let over : Made = all_laid (spelled_by k L).copied o made in
     let at : tables_in k c o ≡ (spelled_by k K).copied = is ∙ ap (λ (M : Content). M.copied) spells in
     elim (cases_Bool (divides_tables k)) [
       | inl some ↦ sym (own_tables k c over some)
-          ∙ tables_written k some K L first second agree c o made (own_tables k c o some ∙ at)
+          ∙ tables_written k some K L first second agree.copied agree fit c o made (own_tables k c o some ∙ at)
           (subst (λ (M : Content). AreUnionOf M (spelled_by k L) made) spells union)
       | inr none ↦
           sym (first_tables k c over none) ∙ first_tables k c o none ∙ at
@@ -173,6 +195,8 @@ pub agree_tested : (k : Kind) (C K : Content) (y : List ℕ) → SpellsIn k C K 
 agree_tested k C K y h form none = Agree-from_none K (content_of_all (format_of k) y)
     (IsClosed-arises (format_of k) (kind_is k).law.is_font K h.arises)
     (IsClosed-arises (format_of k) (kind_is k).law.is_font (content_of_all (format_of k) y)
+    (spells_file k y form).arises)
+    (same_sequences (format_of k) (kind_is k).law K (content_of_all (format_of k) y) h.arises
     (spells_file k y form).arises) none
 
 -- a file whose glyphs have been compared with those of a union, which is held as u and known as v
@@ -274,7 +298,7 @@ module _ (u : Held) (y : List ℕ) (K : Content) (spells : SpellsIn u.kind (cont
         ap (tables_in u.kind (tables_of u.kind u.tables)) over
         ∙ ap (λ (M : Content). tables_in u.kind (tables_of u.kind u.tables) (all_laid M.copied u.own tables)) second.is
         ∙ tables_both u.kind (tables_of u.kind u.tables) u.own tables (content_in u) K L spells.arises second.arises
-        agree spells.is refl (subst (λ (M : Content). AreUnionOf (content_in u) M tables) second.is joined)
+        agree fit spells.is refl (subst (λ (M : Content). AreUnionOf (content_in u) M tables) second.is joined)
 
     head_merged : (plain_font u.tables).head ≡ (spelled_by u.kind (both K L)).head
     head_merged = ap (λ (C : Content). C.head) spells.is
@@ -314,15 +338,42 @@ module _ (u : Held) (y : List ℕ) (K : Content) (spells : SpellsIn u.kind (cont
           ok.has_frames;
     }
 
+-- whether the parts of two contents have room, where they have the same of each glyph that both keep
+pub room_told : (k : Kind) → keeps_sequences k ≡ true → (C D K L : Content) → SpellsIn k C K → SpellsIn k D L
+    → early_difference K L ≡ None → parts_told K L ≡ None → (room : Bool) → IsRoomOf sequences SEQUENCES C D room
+    → when (not room) SEQUENCES ≡ (format_of k).misfit (both K L)
+room_told k keeps C D K L h l early alike room is =
+    let some : divides_tables k ≡ true = keeps_divides k keeps in
+    let table = HasSequences-by (settings k) (settings-are k) K h.arises (sequences_read k keeps) in
+    let tables = all_tables k K L h.arises l.arises early in
+    let told : IsRoomOf sequences SEQUENCES (spelled_by k K) (spelled_by k L) room =
+    (subst (λ (M : Content). IsRoomOf sequences SEQUENCES M (spelled_by k L) room) h.is
+    (subst (λ (N : Content). IsRoomOf sequences SEQUENCES C N room) l.is is)) in
+    let fits : room ≡ fits_at (partition_of k) (both K L).copied (both K L).parts SEQUENCES =
+    told K.copied (K.parts SEQUENCES) (L.parts SEQUENCES)
+    (joinable k some K L h.arises l.arises tables SEQUENCES (parts_alike k K L h.arises alike SEQUENCES past_tags))
+    table.0 table.1
+    ∙ sym (fits_as k some K.copied (unread_whole k K h.arises) SEQUENCES (both K L).parts table.0 table.1) in
+    ap (λ b. when (not b) SEQUENCES) fits ∙ sym (misfit-is k (both K L))
+  where
+    keeps_divides : (k : Kind) → keeps_sequences k ≡ true → divides_tables k ≡ true
+    keeps_divides Full e = cc
+    keeps_divides Lean e = cc
+    keeps_divides Layout e = refl
+    keeps_divides Variable e = refl
+
 -- which table has no room for what both have in it, of a union that is held as u and known as v
-pub misfit_of_union : (u v : Held) → u ≡ v → (y : List ℕ) (unfit : Option ℕ)
-    → ((M : Content) → SpellsIn v.kind (content_in v) M → unfit
-    ≡ (format_of v.kind).misfit (both M (content_of_all (format_of v.kind) y)))
-    → (K : Content) → SpellsIn u.kind (content_in u) K
+pub misfit_of_union : (u v : Held) → u ≡ v → (y : List ℕ) (unfit parts : Option ℕ)
+    → ((M : Content) → SpellsIn v.kind (content_in v) M → parts ≡ parts_told M (content_of_all (format_of v.kind) y))
+    → ((M : Content) → SpellsIn v.kind (content_in v) M
+    → parts_told M (content_of_all (format_of v.kind) y) ≡ None
+    → unfit ≡ (format_of v.kind).misfit (both M (content_of_all (format_of v.kind) y)))
+    → (K : Content) → SpellsIn u.kind (content_in u) K → parts ≡ None
     → unfit ≡ (format_of u.kind).misfit (both K (content_of_all (format_of u.kind) y))
-misfit_of_union u v same y unfit tells K spells =
+misfit_of_union u v same y unfit parts told tells K spells none =
     subst (λ (w : Held). (M : Content) → SpellsIn w.kind (content_in w) M
-    → unfit ≡ (format_of w.kind).misfit (both M (content_of_all (format_of w.kind) y))) (sym same) tells K spells
+    → unfit ≡ (format_of w.kind).misfit (both M (content_of_all (format_of w.kind) y))) (sym same)
+    (λ M h. tells M h (sym (told M h) ∙ none)) K spells
 
 -- the union with a file that was taken into it, of which the same is known
 module _ (u v : Held) (same : u ≡ v) (q : Kind) (kind : q ≡ v.kind) (y : List ℕ) (cut : IsCut (format_of v.kind) y)
@@ -334,8 +385,9 @@ module _ (u v : Held) (same : u ≡ v) (q : Kind) (kind : q ≡ v.kind) (y : Lis
     (told : (M : Content) → SpellsIn v.kind (content_in v) M → parts
     ≡ parts_told M (content_of_all (format_of v.kind) y))
     (least : least_of parts other ≡ None) (unfit : Option ℕ)
-    (tells : (M : Content) → SpellsIn v.kind (content_in v) M → unfit
-    ≡ (format_of v.kind).misfit (both M (content_of_all (format_of v.kind) y)))
+    (tells : (M : Content) → SpellsIn v.kind (content_in v) M
+    → parts_told M (content_of_all (format_of v.kind) y) ≡ None
+    → unfit ≡ (format_of v.kind).misfit (both M (content_of_all (format_of v.kind) y)))
     (fits : unfit ≡ None) (runs : TwoLists) (outlines : List (Option (List ℕ))) (own : Made)
     (tables : Made) (of_glyphs : length u.outlines ≡ glyph_count_of u.tables)
     (taken : other ≡ None → AreTaken u.outlines outlines (content (font_of q y) everything).outline n)
@@ -355,7 +407,7 @@ module _ (u v : Held) (same : u ≡ v) (q : Kind) (kind : q ≡ v.kind) (y : Lis
   agree = agree_of u v same q kind y cut early n count other parts differs told K spells least
 
   fit : (format_of u.kind).misfit (both K (content_of_all (format_of u.kind) y)) ≡ None
-  fit = sym (misfit_of_union u v same y unfit tells K spells) ∙ fits
+  fit = sym (misfit_of_union u v same y unfit parts told tells K spells (least_parts parts other least)) ∙ fits
 
   are : AreTaken u.outlines outlines (content (font_of u.kind y) everything).outline n
   are = subst (λ (k : Kind). AreTaken u.outlines outlines (content (font_of k y) everything).outline n) here

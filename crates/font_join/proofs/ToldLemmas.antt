@@ -5,7 +5,7 @@ use Rattle.std.proofs.Common.{find, is_some, inl, inr, Option, None, Some, refl,
 use Rattle.std.specs.List.{range_with_len}
 use Rattle.std.specs.Option.{option_map}
 use Rattle.std.specs.Str.{bytes_eq}
-use Rattle.std.proofs.lemmas.Bool.{cases_Bool, cases_lt, le-ltb, lt-ltb, not-false}
+use Rattle.std.proofs.lemmas.Bool.{cases_Bool, cases_eq, cases_lt, le-ltb, lt-ltb, not-false}
 use Rattle.sfnt_bytes.specs.declared.tag.TheConstants.{ALL_SLOTS}
 use Rattle.font_theory.specs.Content.{Content, glyph_count, is_never_copied}
 use Rattle.font_theory.specs.Cut.{Arises}
@@ -14,12 +14,14 @@ use Rattle.font_theory.specs.Kinds.{divides_tables, format_of, partition_of, set
 use Rattle.font_theory.specs.Parting.{Tables, parts_of}
 use Rattle.font_theory.specs.declared.Difference.TheVariants.{AtGlyph}
 use Rattle.font_theory.specs.declared.kinds.Kind.{Kind}
+use Rattle.font_theory.specs.declared.kinds.TheConstants.{SEQUENCES}
 use Rattle.font_theory.proofs.ArisesLemmas.{IsClosed-arises}
 use Rattle.font_theory.proofs.DifferenceLemmas.{part_same, same_part}
 use Rattle.font_theory.proofs.DividedLemmas.{parts-whole}
 use Rattle.font_theory.proofs.KindJoinLemmas.{different_glyph-is}
 use Rattle.font_theory.proofs.KindLemmas.{kind_is, settings-are, undivided-kind}
-use Rattle.font_theory.proofs.LeastLemmas.{find-least_from}
+use Rattle.font_theory.proofs.LinkLemmas.{never-filled}
+use Rattle.font_theory.proofs.LeastLemmas.{find-least_from, find-none}
 use Rattle.font_theory.proofs.PartLemmas.{parts_of-undivided}
 use Rattle.font_theory.proofs.SettingsLemmas.{IsDivided-by}
 use Rattle.font_theory.proofs.WritableLemmas.{IsWritable-closed}
@@ -32,7 +34,7 @@ use Rattle.font_join.specs.KindInside.{SpellsIn, has_other_parts, has_others, le
 use Rattle.font_join.specs.Union.{is_other}
 use Rattle.font_join.proofs.AddFaultLemmas.{difference-late}
 use Rattle.font_join.proofs.FirstLemmas.{fails_skip, first_absent, first_of}
-use Rattle.font_join.proofs.FrameLemmas.{count_spelled, same_tables, unread_spelled}
+use Rattle.font_join.proofs.FrameLemmas.{count_spelled, same_sequences, same_tables, unread_spelled}
 
 -- the first number that passes one of two tests
 least_first : (k : ℕ) (o : Option ℕ) → ((j : ℕ) → o ≡ Some j → k ≤ j) → least_of (Some k) o ≡ Some k
@@ -49,6 +51,15 @@ least_none (Some a) None h = refl
 least_none (Some a) (Some b) h = go (nat_lt b a) h
   where
     go : (t : Bool) → cond t (Some b) (Some a) ≡ None → Some b ≡ None
+    go true h = cc
+    go false h = cc
+
+pub least_parts : (o p : Option ℕ) → least_of o p ≡ None → o ≡ None
+least_parts None p h = refl
+least_parts (Some a) None h = cc
+least_parts (Some a) (Some b) h = go (nat_lt b a) h
+  where
+    go : (t : Bool) → cond t (Some b) (Some a) ≡ None → Some a ≡ None
     go true h = cc
     go false h = cc
 
@@ -98,16 +109,17 @@ where_both None p u m e = refl
 where_both (Some a) None u m e = refl
 where_both (Some a) (Some b) u m e = e a b refl refl
 
-slot_parted : (slot : ℕ) → slot < ALL_SLOTS → slot < PARTED
+-- the slot of variation sequences is one of those that may have parts
+pub past_tags : SEQUENCES < PARTED
 unfolding PARTED
-slot_parted slot low = low
+past_tags = omega arith
 
 module _ (k : Kind) (K : Content) (arises : Arises (format_of k) K) (g : ℕ) where
   abbrev w : Tables
   w = (spelled_by k K).copied
 
   -- an outline that is there is of a glyph
-  low_glyph : (a : List ℕ) → K.outline g ≡ Some a → g < glyph_count w
+  pub low_glyph : (a : List ℕ) → K.outline g ≡ Some a → g < glyph_count w
   low_glyph a e = elim (cases_lt g (glyph_count w)) [
     | inl low ↦ low
     | inr high ↦
@@ -137,7 +149,7 @@ module _ (k : Kind) (some : divides_tables k ≡ true) (K L : Content) (first : 
     parts_differ : has_other_part K L g ≡ not (has_same_parts o p g)
     parts_differ = false_same _ _
         (λ f. ap not (same_parts (spelled_by k K).copied (spelled_by k L).copied o p are also g lowc lowd
-        (λ slot low. parts_here K first slot ∙ same_part K L g slot f (slot_parted slot low)
+        (λ slot low. parts_here K first slot ∙ same_part K L g slot f low
         ∙ sym (parts_here L second slot))))
         (λ f. part_same K L g (λ slot. sym (parts_here K first slot)
         ∙ parts_same (spelled_by k K).copied (spelled_by k L).copied o p are also g lowc lowd
@@ -180,6 +192,16 @@ parts_none k none C D K L h l = sym (first_absent (has_other_parts K L) (glyph_c
         (part_same K L g (λ slot. bare_part K h.arises g slot ∙ sym (bare_part L l.arises g slot)))
         ∙ nowhere (is_some (K.outline g)) (is_some (L.outline g))
 
+-- where none is told, a glyph that both keep has the same parts
+pub parts_alike : (k : Kind) (K L : Content) → Arises (format_of k) K → parts_told K L ≡ None → (slot : ℕ)
+    → slot < PARTED → (g : ℕ) (a b : List ℕ) → K.outline g ≡ Some a → L.outline g ≡ Some b
+    → K.parts slot g ≡ L.parts slot g
+parts_alike k K L first none slot low g a b x y =
+    let within : g < glyph_count K.copied = subst (λ (n : ℕ). g < n) (count_spelled k K) (low_glyph k K first g a x) in
+    let fails : has_other_parts K L g ≡ false = find-none (has_other_parts K L) (glyph_count K.copied) g none within in
+    same_part K L g slot
+    (sym (λ i. is_some (x i) && (is_some (y i) && has_other_part K L g)) ∙ fails) low
+
 -- two contents with the same tables differ in a glyph in its outline or in a part
 glyph_told : (k : Kind) (K L : Content) → Arises (format_of k) K → Arises (format_of k) L
     → ((slot : ℕ) → K.copied slot ≡ L.copied slot) → (g : ℕ)
@@ -201,11 +223,18 @@ glyph_told k K L first second copied g =
     go (Some a) (Some b) m = turned (not (bytes_eq a b)) m
 
 -- contents with no difference in a table have the same tables
-all_tables : (k : Kind) (K L : Content) → Arises (format_of k) K → Arises (format_of k) L → early_difference K L ≡ None
+pub all_tables : (k : Kind) (K L : Content) → Arises (format_of k) K → Arises (format_of k) L →
+    early_difference K L ≡ None
     → (slot : ℕ) → K.copied slot ≡ L.copied slot
 all_tables k K L first second early slot = elim (cases_Bool (is_never_copied slot)) [
-  | inl t ↦ (IsClosed-arises (format_of k) (kind_is k).law.is_font K first).font.slots slot t
-      ∙ sym ((IsClosed-arises (format_of k) (kind_is k).law.is_font L second).font.slots slot t)
+  | inl t ↦ elim (cases_eq slot SEQUENCES) [
+    | inl e ↦ subst (λ (s : ℕ). K.copied s ≡ L.copied s) (sym e)
+        (same_sequences (format_of k) (kind_is k).law K L first second)
+    | inr other ↦
+        (IsClosed-arises (format_of k) (kind_is k).law.is_font K first).font.slots slot (never-filled slot t other)
+        ∙ sym ((IsClosed-arises (format_of k) (kind_is k).law.is_font L second).font.slots slot
+        (never-filled slot t other))
+  ]
   | inr f ↦ same_tables K L early slot f
 ]
 

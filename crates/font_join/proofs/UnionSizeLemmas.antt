@@ -1,14 +1,16 @@
 -- How many bytes a union has, and how many of them are its groups.
-use Rattle.std.proofs.Common.{◌≡◌, ℕ, ◌+◌, ◌*◌, ◌≤◌, List, Option, length, refl, sym, ap, ◌∙◌, arith}
+use Rattle.std.proofs.Common.{◌≡◌, ℕ, ◌+◌, ◌*◌, ◌≤◌, List, [], ◌∷◌, Option, length, refl, sym, ap, ◌∙◌, arith}
 use Rattle.sfnt_bytes.specs.declared.directory.TheConstants.{MAX_FILE}
 use Rattle.sfnt_bytes.specs.Sums.{checksum_of}
 use Rattle.codes.specs.Runs.{groups_from}
 use Rattle.codes.specs.declared.runs.Run.{Run}
 use Rattle.codes.proofs.RunLemmas.{groups_done}
-use Rattle.font_theory.specs.Content.{Content, IsWritable, glyph_count}
-use Rattle.font_theory.specs.File.{current_writing, file, writing_of, groups_of_content, outlines_of, second_writing}
+use Rattle.font_theory.specs.Content.{Content, IsWritable, glyph_count, table_in_slot}
+use Rattle.font_theory.specs.declared.kinds.TheConstants.{SEQUENCES}
+use Rattle.font_theory.specs.File.{current_writing, file, groups_of_content, outlines_of}
 use Rattle.font_theory.specs.File.{size_of}
 use Rattle.font_theory.proofs.SizeLemmas.{length-file}
+use Rattle.font_theory.proofs.WritingSizeLemmas.{padded_cmap, second_front, size-sequenced}
 use Rattle.font_write.specs.Parts.{glyf_to, groups_bytes}
 use Rattle.font_write.specs.Plan.{AreCounts}
 use Rattle.font_write.proofs.ChecksumLemmas.{checksum_of-nil}
@@ -40,6 +42,7 @@ module _ (K : Content) where
         slots = ok.slots;
         head_form = ok.head_form;
         head_size = ok.head_size;
+        sequences = ok.sequences;
         past = ok.past;
       }
 
@@ -57,9 +60,35 @@ module _ (K : Content) where
   counts_without counts groups group_sum outlines small =
       record { groups = groups ∙ sym no_groups; group_sum = group_sum ∙ sym no_sum; outlines = outlines; small = small }
 
-  size_apart : size_of current_writing K ≡ size_of current_writing (without_codes K) + 12 * length (groups_from K.map 0)
-  unfolding size_of writing_of second_writing groups_of_content outlines_of
-  size_apart = omega (arith, no_groups)
+  abbrev W : Content
+  W = without_codes K
+
+  size_plain : table_in_slot K.copied SEQUENCES ≡ []
+      → size_of current_writing K ≡ size_of current_writing W + 12 * length (groups_from K.map 0)
+  unfolding size_of groups_of_content outlines_of
+  size_plain none =
+      omega (
+        arith,
+        no_groups,
+        padded_cmap current_writing K none,
+        padded_cmap current_writing W none,
+        second_front (length (groups_from K.map 0)),
+        second_front (length (groups_from W.map 0)),
+      )
+
+  size_sequenced : (table_in_slot K.copied SEQUENCES ≡ [] → ⊥)
+      → size_of current_writing K ≡ size_of current_writing W + 12 * length (groups_from K.map 0)
+  unfolding groups_of_content outlines_of
+  size_sequenced some =
+      omega (arith, no_groups, size-sequenced current_writing K some, size-sequenced current_writing W some)
+
+  size_apart : size_of current_writing K ≡ size_of current_writing W + 12 * length (groups_from K.map 0)
+  size_apart = go (table_in_slot K.copied SEQUENCES) refl
+    where
+      go : (t : List ℕ) → table_in_slot K.copied SEQUENCES ≡ t
+          → size_of current_writing K ≡ size_of current_writing W + 12 * length (groups_from K.map 0)
+      go [] e = size_plain e
+      go (x ∷ t) e = size_sequenced (λ none. let no : [] ≡ (x ∷ t) = sym none ∙ e in cc)
 
   pub size_without : IsWritable K → length (file current_writing K) ≡ length (file current_writing (without_codes K))
       + 12 * length (groups_from K.map 0)

@@ -1,10 +1,13 @@
 -- What the join of two files answers, this project's own, over the format of the cuts that are joined.
-use Rattle.std.specs.Prelude.{◌≡◌, ◌≢◌, ℕ, ◌<◌, nat_lt, not, List, [], ◌∷◌, ◌++◌, length, Option, None, Some}
+use Rattle.std.specs.Prelude.{◌≡◌, ◌≢◌, ℕ, ◌<◌, nat_eq, nat_lt, not, if◌then◌else◌, List, [], ◌∷◌, ◌++◌}
+use Rattle.std.specs.Prelude.{length, Option, None, Some}
 use Rattle.std.specs.Option.{option_map, option_or}
 use Rattle.sfnt_bytes.specs.Directory.{slot_tag}
 use Rattle.sfnt_bytes.specs.Lines.{first_of_lines, when}
 use Rattle.sfnt_bytes.specs.declared.directory.DirError.TheVariants.{FileTooLarge}
 use Rattle.sfnt_bytes.specs.declared.directory.TheConstants.{MAX_FILE}
+use Rattle.sfnt_bytes.specs.declared.tag.Tag.{Tag}
+use Rattle.sfnt_bytes.specs.declared.tag.TheConstants.{CMAP}
 use Rattle.font_file.specs.Font.{font_fault}
 use Rattle.font_file.specs.declared.font_error.FontError.TheVariants.{Directory}
 use Rattle.font_write.specs.declared.cut_error.CutError.{CutError}
@@ -12,6 +15,7 @@ use Rattle.font_write.specs.declared.cut_error.CutError.TheVariants as cut_error
 use Rattle.font_theory.specs.Cut.{Format, IsCurrent, Under, is_cut, joined, content_of_all, misfit_of}
 use Rattle.font_theory.specs.Difference.{difference}
 use Rattle.font_theory.specs.Agreement.{Agree}
+use Rattle.font_theory.specs.declared.kinds.TheConstants.{SEQUENCES}
 use Rattle.font_theory.specs.declared.Difference.{Difference}
 use Rattle.font_theory.specs.declared.Difference.TheVariants.{AtCode, AtGlyph, AtTable}
 use Rattle.font_join.specs.declared.join_error.JoinError.{JoinError}
@@ -26,9 +30,13 @@ different (AtTable slot) = DifferentTable (slot_tag slot)
 different (AtCode code) = DifferentMapping code
 different (AtGlyph g) = DifferentGlyph g
 
+-- the tag of the table of a slot: variation sequences stand in `cmap`
+abbrev pub tag_of_table : ℕ → Tag
+tag_of_table slot = if nat_eq slot SEQUENCES then slot_tag CMAP else slot_tag slot
+
 -- the refusal for a table that has no room for what both files have in it
 abbrev pub too_long : ℕ → JoinError
-too_long slot = TableTooLong (slot_tag slot)
+too_long slot = TableTooLong (tag_of_table slot)
 
 -- the refusal for a file that is not made
 abbrev pub join_error_of_cut : CutError → JoinError

@@ -8,14 +8,15 @@ ghost use Rattle.font_theory.specs.Content.{CODES, Content};
 ghost use Rattle.font_theory.specs.Difference.{first_slot, is_different_code, is_different_table};
 ghost use Rattle.sfnt_bytes.specs.Directory.{slot_at};
 ghost use Rattle.sfnt_bytes.specs.declared.tag.TheConstants.{ALL_SLOTS as SLOT_COUNT};
-ghost use Rattle.font_join.specs.Join.{different};
+ghost use Rattle.font_theory.specs.declared.kinds.TheConstants.{SEQUENCES as SEQUENCE_SLOT};
+ghost use Rattle.font_join.specs.Join.{different, tag_of_table};
 ghost use Rattle.font_join.specs.Inside.{early_difference, late_fault};
 
 use crate::join_error::JoinError;
 use font_map::Pieces;
-use font_theory::Difference;
+use font_theory::{Difference, SEQUENCES};
 use font_write::Source;
-use sfnt_bytes::{ALL_SLOTS, HEAD, slot_in, tag_of};
+use sfnt_bytes::{ALL_SLOTS, CMAP, HEAD, Tag, slot_in, tag_of};
 
 /// Returns whether two slices hold the same bytes.
 pub(crate) fn is_same(a: &[u8], b: &[u8]) -> bool
@@ -120,14 +121,25 @@ pub(crate) fn early_difference<K: Source, P: Pieces, L: Source>(
     None
 }
 
+// Returns the tag of the table of a slot, which for variation sequences is that of `cmap`, where they stand.
+fn tag_of_table(slot: usize) -> Tag
+    requires { slot ≤ SEQUENCE_SLOT }
+    ensures { result ≡ tag_of_table slot }
+{
+    if slot == SEQUENCES {
+        return tag_of(CMAP);
+    }
+    tag_of(slot)
+}
+
 /// Returns the refusal for a glyph that differs, or else for a table that has no room.
 pub(crate) fn late_refusal(glyph: Option<u16>, misfit: Option<u8>) -> Option<JoinError>
-    requires { IfSome misfit (λ slot. slot < SLOT_COUNT) }
+    requires { IfSome misfit (λ slot. slot ≤ SEQUENCE_SLOT) }
     ensures { result ≡ late_fault glyph misfit }
 {
     match (glyph, misfit) {
         (Some(g), _) => Some(JoinError::DifferentGlyph(g)),
-        (None, Some(slot)) => Some(JoinError::TableTooLong(tag_of(usize::from(slot)))),
+        (None, Some(slot)) => Some(JoinError::TableTooLong(tag_of_table(usize::from(slot)))),
         (None, None) => None,
     }
 }

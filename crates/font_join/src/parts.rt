@@ -7,13 +7,14 @@ ghost use Rattle.font_join.specs.KindInside.{has_others};
 
 use divided_tables::OpenTables;
 use font_write::Source;
+use std::alloc::Allocator;
 
 // Returns whether two contents keep a glyph with another part.
-fn has_others<'t, K: Source, L: Source>(
+fn has_others<'t, K: Source, L: Source, A: Allocator>(
     k: &K,
     l: &L,
-    first: &OpenTables<'t>,
-    second: &OpenTables<'t>,
+    first: &OpenTables<'t, A>,
+    second: &OpenTables<'t, A>,
     g: u16,
 ) -> bool
     requires first { g < count_in first.now }
@@ -25,11 +26,11 @@ fn has_others<'t, K: Source, L: Source>(
 
 /// Returns the first glyph that two contents, of which these are the tables, keep with another part, sought among those
 /// that the second keeps.
-pub(crate) fn different_part<'t, K: Source, L: Source>(
+pub(crate) fn different_part<'t, K: Source, L: Source, A: Allocator>(
     k: &K,
     l: &L,
-    first: &OpenTables<'t>,
-    second: &OpenTables<'t>,
+    first: &OpenTables<'t, A>,
+    second: &OpenTables<'t, A>,
 ) -> Option<u16>
     requires first { count_in first.now ≡ glyph_count (L.content_of l.now).copied }
     requires second { count_in second.now ≡ glyph_count (L.content_of l.now).copied }

@@ -3,7 +3,6 @@
 ghost use Rattle.std.specs.Prelude.{◌≡◌, ◌<◌, ◌≤◌, length, Err, None, Some, IfOk, IfSome, MatchOption, MatchResult, OnErr};
 ghost use Rattle.sfnt_bytes.specs.Memory.{IsRefused};
 ghost use Rattle.sfnt_bytes.specs.declared.directory.TheConstants.{MAX_FILE};
-ghost use Rattle.sfnt_bytes.specs.declared.tag.TheConstants.{ALL_SLOTS as SLOT_COUNT};
 ghost use Rattle.font_theory.specs.Agreement.{both};
 ghost use Rattle.font_theory.specs.Bytes.{padded};
 ghost use Rattle.font_theory.specs.Content.{Content, content, everything};
@@ -11,6 +10,7 @@ ghost use Rattle.font_theory.specs.Cut.{IsCut, content_of_all};
 ghost use Rattle.font_theory.specs.File.{current_writing, file};
 ghost use Rattle.font_theory.specs.Kinds.{font_of, format_of};
 ghost use Rattle.font_theory.specs.declared.kinds.Kind.{Kind};
+ghost use Rattle.font_theory.specs.declared.kinds.TheConstants.{SEQUENCES as SEQUENCE_SLOT};
 ghost use Rattle.font_write.specs.WholeFile.{IsTooLarge};
 ghost use Rattle.font_join.specs.Union.{HasShortTables, content_in};
 ghost use Rattle.divided_tables.specs.DividedTables.{AreFine};
@@ -31,7 +31,7 @@ use divided_tables::{MadeTables, OpenTables};
 use font_file::Font;
 use font_map::Run;
 use font_subset::{FontOfKind, head};
-use font_theory::{Difference, Kind};
+use font_theory::{Difference, Kind, SEQUENCES};
 use font_write::Source;
 use map_union::UnionMap;
 use sfnt_bytes::{Memory, NoMemory};
@@ -219,32 +219,47 @@ impl<'f, 'a, A: Memory + Copy> Union<'f, 'a, A> {
     }
 
     // Returns the first glyph that a cut and the union keep with another part in a table that is divided.
-    fn other_parts(&self, file: &Listed<'_, 'a, A>) -> Option<u16>
+    fn other_parts(&self, alloc: A, file: &Listed<'_, 'a, A>) -> Result<Option<u16>, NoMemory>
         requires same { file.now.0 ≡ self.now.kind }
         requires form { IsCut (format_of self.now.kind) file.now.1 }
         requires early { (K : Content) → SpellsIn self.now.kind (content_in self.now) K →
             early_difference K (content_of_all (format_of self.now.kind) file.now.1) ≡ None }
         requires small { HasShortTables self.now }
-        ensures { (K : Content) → SpellsIn self.now.kind (content_in self.now) K →
-            result ≡ parts_told K (content_of_all (format_of self.now.kind) file.now.1) }
+        ensures told { IfOk result (λ parts. (K : Content) → SpellsIn self.now.kind (content_in self.now) K →
+            parts ≡ parts_told K (content_of_all (format_of self.now.kind) file.now.1)) }
+        ensures memory { OnErr result (IsRefused A.refuses) }
     {
         if !self.first.kind().divides_tables() {
-            return None;
+            return Ok(None);
         }
-        let first = OpenTables::of(self);
-        let second = OpenTables::of(file);
-        different_part(self, file, &first, &second)
+        let first = OpenTables::of(alloc, self)?;
+        let second = OpenTables::of(alloc, file)?;
+        Ok(different_part(self, file, &first, &second))
     }
 
-    // Returns the first table that is too long with what a cut and the union have in it of single glyphs. There is
-    // none in any kind of today: `parts_always_fit` of font_theory.
-    fn misfit(&self, file: &Listed<'_, 'a, A>) -> Option<u8>
-        ensures told { (K : Content) → SpellsIn self.now.kind (content_in self.now) K →
-            result ≡ (format_of self.now.kind).misfit (both K (content_of_all (format_of self.now.kind) file.now.1)) }
-        ensures low { IfSome result (λ slot. slot < SLOT_COUNT) }
+    // Returns the first table that has no room for the parts of a cut and the union. It is told where no glyph has two
+    // parts: then two glyphs may still have one selector and code.
+    fn misfit(&self, alloc: A, file: &Listed<'_, 'a, A>) -> Result<Option<u8>, NoMemory>
+        requires same { file.now.0 ≡ self.now.kind }
+        requires form { IsCut (format_of self.now.kind) file.now.1 }
+        requires early { (K : Content) → SpellsIn self.now.kind (content_in self.now) K →
+            early_difference K (content_of_all (format_of self.now.kind) file.now.1) ≡ None }
+        requires small { HasShortTables self.now }
+        ensures told { IfOk result (λ unfit. (K : Content) → SpellsIn self.now.kind (content_in self.now) K →
+            parts_told K (content_of_all (format_of self.now.kind) file.now.1) ≡ None →
+            unfit ≡ (format_of self.now.kind).misfit (both K (content_of_all (format_of self.now.kind) file.now.1))) }
+        ensures low { IfOk result (λ unfit. IfSome unfit (λ slot. slot ≤ SEQUENCE_SLOT)) }
+        ensures memory { OnErr result (IsRefused A.refuses) }
     {
-        let _file = file;
-        None
+        if !self.first.kind().keeps_sequences() {
+            return Ok(None);
+        }
+        let first = OpenTables::of(alloc, self)?;
+        let second = OpenTables::of(alloc, file)?;
+        if first.fits(&second, self, file) {
+            return Ok(None);
+        }
+        Ok(Some(SEQUENCES as u8))
     }
 
     // Returns the union with a cut that agrees with it in its tables and its map, or the first glyph in which
@@ -260,8 +275,8 @@ impl<'f, 'a, A: Memory + Copy> Union<'f, 'a, A> {
             (IsAddRefusal (format_of self.entry.kind) K file.entry.1) }
         ensures memory { result ≡ Err JoinNoMemory → IsRefused A.refuses }
     {
-        let parts = self.other_parts(&file);
-        let misfit = self.misfit(&file);
+        let parts = self.other_parts(alloc, &file)?;
+        let misfit = self.misfit(alloc, &file)?;
         let made = MadeTables::united(alloc, &self, &file)?;
         let count = self.first.font().tables().glyph_count();
         let Union {

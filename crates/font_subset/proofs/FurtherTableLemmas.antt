@@ -1,33 +1,41 @@
 -- What is read of the tables of layout and of variations of a font.
-use Rattle.std.proofs.Common.{◌≡◌, ℕ, zero, suc, ◌+◌, ◌-◌, ◌<◌, ◌≤◌, Bool, true, false, cond, nat_le, List, []}
-use Rattle.std.proofs.Common.{◌∷◌, ◌&&◌, get_or}
+use Rattle.std.proofs.Common.{◌≡◌, ◌≢◌, ℕ, zero, suc, ◌+◌, ◌-◌, ◌<◌, ◌≤◌, Bool, true, false, cond, nat_le, List, []}
+use Rattle.std.proofs.Common.{◌∷◌, ◌&&◌, get_or, subst}
 use Rattle.std.proofs.Common.{Option, None, Some, refl, sym, ◌∙◌, ap, arith}
-use Rattle.std.specs.Option.{option_map, option_map_or, option_or}
+use Rattle.std.specs.Option.{option_map, option_or, unwrap_or}
 use Rattle.std.proofs.lemmas.Bool.{le-leb, lt-leb, lt-ltb, ne_eqb}
-use Rattle.sfnt_bytes.specs.Directory.{is_layout_slot, slot_tag, table_of}
+use Rattle.sfnt_bytes.specs.Directory.{is_layout_slot, kept_tag, slot_tag, table_of}
 use Rattle.sfnt_bytes.specs.Lines.{first_of_lines, when}
 use Rattle.sfnt_bytes.specs.Refusals.{is_outside, layout_directory_fault, tag_lines}
 use Rattle.sfnt_bytes.specs.declared.directory.DirError.{DirError}
-use Rattle.sfnt_bytes.specs.declared.tag.TheConstants.{ALL_SLOTS, FIRST_VARIATION, FVAR, GVAR, LAYOUT_AND_VARIATIONS}
+use Rattle.sfnt_bytes.specs.declared.tag.TheConstants.{ALL_SLOTS, CMAP, FIRST_VARIATION, LAYOUT_AND_VARIATIONS}
 use Rattle.sfnt_bytes.specs.declared.tag.TheConstants.{SLOTS}
 use Rattle.sfnt_bytes.proofs.LineLemmas.{find-none_at}
 use Rattle.sfnt_bytes.proofs.RefusalLemmas.{layout_not_outside, tags_inside}
 use Rattle.font_tables.specs.Fields.{glyph_count_of}
-use Rattle.font_variations.specs.Gvar.{is_bad_variations}
-use Rattle.font_file.specs.Font.{font_fault}
+use Rattle.font_map.specs.Mapping.{mapping_of}
+use Rattle.font_file.specs.Font.{cmap_of, font_fault, map_of}
 use Rattle.font_file.specs.declared.font_error.FontError.TheVariants.{BadVariations, Directory}
 use Rattle.font_theory.specs.Content.{is_bad_variations_in, is_never_copied}
 use Rattle.font_theory.specs.Kinds.{fault_by, fault_of, full_settings, layout_settings, lean_settings, read_by}
-use Rattle.font_theory.specs.Kinds.{tables_of, variable_settings}
+use Rattle.font_theory.specs.Kinds.{AreSettings, Settings, sequences_of_file, tables_by, tables_of}
+use Rattle.font_theory.specs.Kinds.{variable_settings, with_sequences}
+use Rattle.font_theory.specs.Kinds.{Reading}
 use Rattle.font_theory.specs.Kinds.Reading.{absent, as_it_is, unvarying}
+use Rattle.font_theory.specs.SequenceTable.{sequences_of_font}
 use Rattle.font_theory.specs.Links.{fixed}
 use Rattle.font_theory.specs.declared.kinds.Kind.{Kind}
 use Rattle.font_theory.specs.declared.kinds.Kind.TheVariants.{Full, Layout, Lean, Variable}
+use Rattle.font_theory.specs.declared.kinds.TheConstants.{SEQUENCES}
+use Rattle.font_theory.proofs.FontLemmas.{IsFont-accepted, glyph_count-file}
+use Rattle.font_theory.proofs.KindLemmas.{AreSettings-layout, AreSettings-variable}
+use Rattle.font_theory.proofs.SequenceSettingsLemmas.{read_there}
+use Rattle.font_theory.proofs.SettingsLemmas.{table_in_file-tag}
 use Rattle.font_theory.proofs.LinkLemmas.{is_bad_variations_in-none, layout-copied}
 use Rattle.font_subset.specs.Inside.{IsRead, fixed_read, slots_of, tags_fault}
 use Rattle.divided_tables.specs.DividedTables.{has_refused}
 use Rattle.divided_tables.proofs.KindPartLemmas.{refused-is}
-use Rattle.font_subset.proofs.SourceLemmas.{count_as, full_accepted, lean_accepted, unread}
+use Rattle.font_subset.proofs.SourceLemmas.{full_accepted, lean_accepted, no_sequences}
 
 -- cuts that read none of these tables, and cuts that read some
 pub plain_accepted : (kind : Kind) (file : List ℕ) → slots_of kind ≡ SLOTS → font_fault file ≡ None
@@ -37,20 +45,49 @@ plain_accepted Lean file plain accepted = lean_accepted file accepted
 plain_accepted Layout file plain accepted = absurd (omega (arith, plain))
 plain_accepted Variable file plain accepted = absurd (omega (arith, plain))
 
-pub plain_read : (kind : Kind) (file : List ℕ) → slots_of kind ≡ SLOTS → IsRead kind file None
+pub plain_read : (kind : Kind) (file : List ℕ) → slots_of kind ≡ SLOTS → IsRead kind file None None
 unfolding full_settings lean_settings
-plain_read Full file plain = record { inside = refl; fixed_is = refl }
-plain_read Lean file plain = record { inside = refl; fixed_is = refl }
+plain_read Full file plain =
+    record { inside = refl; fixed_is = refl; sequences_are = sym (no_sequences Full file plain); short = omega arith }
+plain_read Lean file plain =
+    record { inside = refl; fixed_is = refl; sequences_are = sym (no_sequences Lean file plain); short = omega arith }
 plain_read Layout file plain = absurd (omega (arith, plain))
 plain_read Variable file plain = absurd (omega (arith, plain))
 
--- a table of layout without what varies
+-- where more is read, so are the variation sequences
+pub further_read : (kind : Kind) (file : List ℕ) → SLOTS < slots_of kind
+    → Some (sequences_of_file file) ≡ tables_of kind file SEQUENCES
+further_read Full file more = absurd (omega (arith, more))
+further_read Lean file more = absurd (omega (arith, more))
+further_read Layout file more = refl
+further_read Variable file more = refl
+
+-- the font is an accepted one, of which each code has a glyph
+pub mapped_below : (file : List ℕ) → font_fault file ≡ None → (code : ℕ) → 0 < map_of file code
+    → map_of file code < glyph_count_of file
+mapped_below file accepted code some = subst (λ (n : ℕ). map_of file code < n) (glyph_count-file file)
+    ((IsFont-accepted file accepted).mapped_below code)
+
+pub of_font : (file cmap : List ℕ) (m : List ℕ × ℕ) (n : ℕ)
+    → cmap ≡ unwrap_or (table_of file (kept_tag CMAP)) []
+    → m ≡ (cmap_of file, glyph_count_of file) → n ≡ glyph_count_of file
+    → sequences_of_font cmap (mapping_of m.0 m.1) n ≡ sequences_of_file file
+unfolding cmap_of sequences_of_file
+of_font file cmap m n of_cmap of_map of_count =
+    λ i. sequences_of_font (of_cmap i) (mapping_of (of_map i).0 (of_map i).1) (of_count i)
+
+-- a table that is read as it is, but for layout without what varies
+read_tag : (s : Settings) (file : List ℕ) (slot : ℕ) → slot ≢ SEQUENCES → (r : Reading) → s.reading slot ≡ r
+    → AreSettings s → tables_by (with_sequences s) file slot ≡ read_by r slot (table_of file (slot_tag slot))
+read_tag s file slot other r is are =
+    (λ i. read_by ((read_there s are slot other ∙ is) i) slot (table_in_file-tag file slot other i))
+
 pub layout_table : (file : List ℕ) (slot : ℕ) → is_layout_slot slot ≡ true
     → tables_of Layout file slot ≡ option_map (fixed slot) (table_of file (slot_tag slot))
 unfolding layout_settings
 layout_table file slot h =
-    let none = layout-copied slot h in
-    λ i. read_by (cond (none i) absent (cond (h i) unvarying as_it_is)) slot (table_of file (slot_tag slot))
+    read_tag layout_settings file slot (λ e. let no : true ≡ false = sym h ∙ ap is_layout_slot e in cc) unvarying
+    (λ i. cond (layout-copied slot h i) absent (cond (h i) unvarying as_it_is)) AreSettings-layout
 
 -- a table that is read as it is
 variable_table : (file : List ℕ) (slot : ℕ) → SLOTS ≤ slot → slot < ALL_SLOTS
@@ -63,7 +100,8 @@ variable_table file slot from to =
     let w = ne_eqb slot 9 (λ e. omega arith) in
     let last : nat_le ALL_SLOTS slot ≡ false = lt-leb ALL_SLOTS slot to in
     let copied : is_never_copied slot ≡ false = rw (x, y, z, w) last in
-    sym (ap (λ b. read_by (cond b absent as_it_is) slot (table_of file (slot_tag slot))) copied)
+    sym (read_tag variable_settings file slot (λ e. omega (arith, e, to)) as_it_is
+    (ap (λ b. cond b absent as_it_is) copied) AreSettings-variable)
 
 pub whole_table : (kind : Kind) (file : List ℕ) (slot : ℕ) → None ≡ fixed_read kind file → SLOTS ≤ slot
     → slot < slots_of kind → table_of file (slot_tag slot) ≡ tables_of kind file slot

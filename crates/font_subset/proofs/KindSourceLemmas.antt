@@ -2,26 +2,29 @@
 use Rattle.std.proofs.Common.{◌≡◌, ◌≢◌, ℕ, suc, ◌<◌, ◌≤◌, false, true, refl, List, length, None, Some, sym, ◌∙◌, ap}
 use Rattle.std.proofs.Common.{subst}
 use Rattle.std.specs.Option.{IsSome, is_some, option_or}
-use Rattle.sfnt_bytes.specs.Directory.{slot_tag, table_of}
-use Rattle.font_theory.specs.Bytes.{cut_head}
-use Rattle.font_theory.specs.Content.{Content, IsWritable, KeepsComponents, Wanted, content, glyph_count}
+use Rattle.font_theory.specs.Content.{Content, IsClosedContent, IsWritable, KeepsComponents, Wanted, content}
+use Rattle.font_theory.specs.Content.{glyph_count}
 use Rattle.font_theory.specs.Kinds.{divides_tables, fault_of, font_of, format_by, format_of, full_settings}
-use Rattle.font_theory.specs.Kinds.{partition_of, read_by, reduced, settings, spelled_by, tables_of}
+use Rattle.font_theory.specs.Kinds.{partition_of, read_by, reduced, settings, spelled_by, table_in_file, tables_of}
 use Rattle.font_theory.specs.Kinds.Reading.{absent}
 use Rattle.font_theory.specs.Parting.{may_divide, undivided}
 use Rattle.font_theory.specs.declared.kinds.Kind.{Kind}
 use Rattle.font_theory.specs.declared.kinds.Kind.TheVariants.{Full, Layout, Lean, Variable}
+use Rattle.font_theory.specs.Cut.Arises.{of_file}
 use Rattle.font_theory.proofs.DividedLemmas.{reduced-is}
+use Rattle.font_theory.proofs.HeldLemmas.{KeepsComponents-closed}
 use Rattle.font_theory.proofs.KindLemmas.{settings-are}
-use Rattle.font_theory.proofs.PartLemmas.{glyph_count-alike, never-divided}
+use Rattle.font_theory.proofs.PartLemmas.{glyph_count-alike}
+use Rattle.font_theory.proofs.SettingsLemmas.{IsClosed-by}
 use Rattle.font_theory.proofs.WordLemmas.{reduced-undivided}
+use Rattle.font_theory.proofs.WritableLemmas.{IsWritable-closed}
 use Rattle.font_write.specs.Parts.{IsNextKept}
 use Rattle.divided_tables.specs.DividedTables.{IsKept, Made, made_at, none_made}
 use Rattle.divided_tables.proofs.KindPartLemmas.{reduced_as}
 use Rattle.divided_tables.proofs.MadeLemmas.{none_at}
 use Rattle.font_subset.specs.KeptGlyphs.{selected, wanted_in, written_content}
 use Rattle.font_subset.specs.Inside.{IsMade}
-use Rattle.font_subset.proofs.SourceLemmas.{Held, is_font, is_writable, keeps_components}
+use Rattle.font_subset.proofs.SourceLemmas.{Held, is_font}
 
 -- what is written of a content of a kind, where that is of the font itself and not of what the kind reads of it
 abbrev kept_by : Kind → Content → Content
@@ -61,21 +64,6 @@ module _ (kind : Kind) (K : Content) where
   kept_count : glyph_count (kept_by kind K).copied ≡ glyph_count K.copied
   kept_count = glyph_count-alike K.copied (kept_by kind K).copied kept_alike
 
-  kept_writable : IsWritable K → IsWritable (kept_by kind K)
-  kept_writable ok = record {
-    mapped_below = λ c. subst (λ (m : ℕ → ℕ). m c < glyph_count (kept_by kind K).copied) (sym kept_map)
-        (subst (λ (n : ℕ). K.map c < n) (sym kept_count) (ok.mapped_below c));
-    mapped_codes = λ c past. ap (λ (m : ℕ → ℕ). m c) kept_map ∙ ok.mapped_codes c past;
-    slots = λ slot never. kept_alike slot (never-divided slot never) ∙ ok.slots slot never;
-    head_form = subst (λ (h : List ℕ). cut_head h ≡ h) (sym kept_head) ok.head_form;
-    head_size = subst (λ (h : List ℕ). 54 ≤ length h) (sym kept_head) ok.head_size;
-    past = λ g past. ap (λ o. o g) kept_outline ∙ ok.past g (subst (λ (n : ℕ). n ≤ g) kept_count past);
-  }
-
-  kept_components : KeepsComponents K → KeepsComponents (kept_by kind K)
-  unfolding reduced
-  kept_components h = record { notdef = h.notdef; mapped = h.mapped; components = h.components }
-
 -- all kinds but that of full cuts divide tables
 pub divides_all : (kind : Kind) → kind ≢ Full → divides_tables kind ≡ true
 divides_all Full other = absurd (other refl)
@@ -86,7 +74,7 @@ divides_all Variable other = refl
 -- a table that is not read is none
 pub unread_file : (kind : Kind) (file : List ℕ) (slot : ℕ) → (settings kind).reading slot ≡ absent
     → tables_of kind file slot ≡ None
-unread_file kind file slot e = ap (λ r. read_by r slot (table_of file (slot_tag slot))) e
+unread_file kind file slot e = ap (λ r. read_by r slot (table_in_file file slot)) e
 
 full_partition : (slot : ℕ) → partition_of Full slot ≡ undivided
 unfolding full_settings
@@ -97,12 +85,16 @@ kept_full kind K slot full = ap (λ (k : Kind). (kept_by k K).copied slot) full
     ∙ reduced-undivided (partition_of Full) K slot (full_partition slot)
 
 module _ (cut : Held) (ok : fault_of cut.0 cut.1.0 ≡ None) where
+  is_closed : IsClosedContent (written_content cut)
+  unfolding format_by
+  is_closed = subst IsClosedContent (sym (written_spelled cut)) (IsClosed-by (settings cut.0) (settings-are cut.0)
+      (content ((format_of cut.0).font cut.1.0) (wanted_in cut.1.1)) (of_file cut.1.0 (wanted_in cut.1.1) ok refl))
+
   pub in_writable : IsWritable (written_content cut)
-  in_writable = subst IsWritable (sym (written_is cut ok)) (kept_writable cut.0 (selected cut) (is_writable cut ok))
+  in_writable = IsWritable-closed (written_content cut) is_closed
 
   pub in_components : KeepsComponents (written_content cut)
-  in_components = subst KeepsComponents (sym (written_is cut ok)) (kept_components cut.0 (selected cut)
-      (keeps_components cut ok))
+  in_components = KeepsComponents-closed (written_content cut) is_closed
 
   pub in_head : (written_content cut).head ≡ (selected cut).head
   in_head = ap (λ (K : Content). K.head) (written_is cut ok) ∙ kept_head cut.0 (selected cut)

@@ -3,12 +3,12 @@ use Rattle.std.proofs.Common.{◌≡◌, ◌≢◌, ℕ, ◌<◌, ◌≤◌, Boo
 use Rattle.std.proofs.Common.{[], ◌∷◌, length, refl, sym, ◌∙◌, ap, subst, arith}
 use Rattle.std.proofs.lemmas.Bool.{cases_eq, cases_lt, eqb-true, false_from_ne_true, le-ltb, lt-ltb, ltb-true, ne_eqb}
 use Rattle.std.proofs.lemmas.Bool.{or_left}
-use Rattle.sfnt_bytes.specs.declared.tag.TheConstants.{ALL_SLOTS}
 use Rattle.font_glyph.specs.Marks.{has}
 use Rattle.font_glyph.specs.Reach.{any_below}
 use Rattle.font_tables.specs.Fields.{glyph_count_of}
 use Rattle.font_tables.specs.Outlines.{outline_of}
 use Rattle.font_theory.specs.Content.{glyph_count, plain_font}
+use Rattle.font_theory.specs.Difference.{PARTED}
 use Rattle.font_theory.specs.Kinds.{font_of, full_settings, has_record, layout_settings, lean_settings, settings}
 use Rattle.font_theory.specs.Kinds.{tables_of, there_by, variable_settings}
 use Rattle.font_theory.specs.declared.kinds.Kind.{Kind}
@@ -67,7 +67,7 @@ module _ (kind : Kind) (file : List ℕ) (tables : OpenParts) (is : IsPresence k
       let within : g < glyph_count (tables_of kind file) = subst (λ (n : ℕ). g < n) (count_as kind file) low in
       (λ i. by_number kind is.numbered i && (lt-ltb g (glyph_count (tables_of kind file)) within i
       && (nat_lt 0 (length (outline-file file g low i)) || any_below (λ slot. nat_lt 0 (length (parts_as kind some
-      (tables_of kind file) (unread_file kind file) slot g i))) ALL_SLOTS)))
+      (tables_of kind file) (unread_file kind file) slot g i))) PARTED)))
       ∙ ap (λ b. nat_lt 0 (length (outline_of file g)) || b)
       (sym (has_parts-is (tables_of kind file) tables is.are_open g within))
 

@@ -1,10 +1,10 @@
 -- What a font gives to its cuts.
-use Rattle.std.proofs.Common.{◌≡◌, ℕ, zero, suc, ◌+◌, ◌-◌, ◌<◌, ◌≤◌, Bool, true, false, List, [], ◌∷◌}
+use Rattle.std.proofs.Common.{◌≡◌, ◌≢◌, ℕ, zero, suc, ◌+◌, ◌-◌, ◌<◌, ◌≤◌, Bool, true, false, List, [], ◌∷◌}
 use Rattle.std.proofs.Common.{nat_lt, length, slice_range, drop, Option, None, Some, refl, sym, ◌∙◌, ap, subst, arith}
 use Rattle.std.proofs.Common.{MatchOption, cond, inl, inr, nat_le}
 use Rattle.std.specs.Option.{option_map, unwrap_or, is_some, IsSome}
 use Rattle.std.proofs.lemmas.List.{length-drop, length-take}
-use Rattle.std.proofs.lemmas.Bool.{false_from_ne_true, le-leb, le-ltb, or_right}
+use Rattle.std.proofs.lemmas.Bool.{cases_eq, false_from_ne_true, le-leb, le-ltb, or_right}
 use Rattle.sfnt_bytes.specs.Directory.{is_layout_slot, kept_tag, slot_tag, table_bytes, table_entry, table_of}
 use Rattle.sfnt_bytes.specs.declared.tag.TheConstants.{ALL_SLOTS, FIRST_VARIATION, SLOTS}
 use Rattle.sfnt_bytes.specs.Lines.{when}
@@ -22,13 +22,16 @@ use Rattle.font_write.proofs.MeasureLemmas.{none_if}
 use Rattle.font_theory.specs.Content.{Content, IsFont, IsWritable, KeepsComponents, Wanted, content, glyph_count}
 use Rattle.font_theory.specs.Content.{is_kept, is_made, is_never_copied, is_never_in_layout, plain_font, table_in_slot}
 use Rattle.font_theory.specs.Kinds.{Reading, fault_of, font_of, layout_settings, read_by, settings, tables_of}
-use Rattle.font_theory.specs.Kinds.{variable_settings}
+use Rattle.font_theory.specs.Kinds.{table_in_file, variable_settings}
 use Rattle.font_theory.specs.Kinds.Reading.{absent, as_it_is, unvarying}
 use Rattle.font_theory.specs.Parting.{may_divide}
+use Rattle.font_theory.specs.declared.kinds.TheConstants.{SEQUENCES}
 use Rattle.font_theory.specs.declared.kinds.Kind.TheVariants.{Full, Layout, Lean, Variable}
 use Rattle.font_theory.specs.declared.kinds.Kind.{Kind}
-use Rattle.font_theory.proofs.KindLemmas.{full_fault-is, full_font-is, lean_fault-is, lean_tables-is, settings-are}
-use Rattle.font_theory.proofs.SettingsLemmas.{IsFont-by, count_by, font_fault-by, tables_by-below}
+use Rattle.font_theory.proofs.KindLemmas.{AreSettings-layout, AreSettings-variable, full_fault-is, full_font-is}
+use Rattle.font_theory.proofs.KindLemmas.{lean_fault-is, lean_tables-is, settings-are}
+use Rattle.font_theory.proofs.SequenceSettingsLemmas.{read_there}
+use Rattle.font_theory.proofs.SettingsLemmas.{IsFont-by, count_by, font_fault-by, table_in_file-tag, tables_by-below}
 use Rattle.font_theory.proofs.ContentLemmas.{IsClosed-content}
 use Rattle.font_theory.proofs.FileWantedLemmas.{outline-file}
 use Rattle.font_theory.proofs.HeldLemmas.{KeepsComponents-closed}
@@ -38,6 +41,7 @@ use Rattle.font_subset.specs.KeptGlyphs.{wanted_in}
 use Rattle.font_subset.specs.Inside.{slots_of}
 use Rattle.divided_tables.specs.DividedTables.{AreFine, has_refused}
 use Rattle.divided_tables.proofs.KindPartLemmas.{fine_font, read_divided, refused-is}
+use Rattle.divided_tables.proofs.MadeSequenceLemmas.{good_small}
 use Rattle.font_theory.proofs.FontLemmas.{are_sound, glyph_count-file, size-accepted}
 use Rattle.font_theory.proofs.FontLemmas.{table_fault-accepted}
 use Rattle.font_theory.proofs.CutHeadLemmas.{head-size}
@@ -74,16 +78,6 @@ pub head_small : (file : List ℕ) → font_fault file ≡ None → length (head
 unfolding table_or_empty
 head_small file accepted = table_small file head_tag accepted
 
--- nor is one that cuts of a kind may divide
-short_table : (kind : Kind) (file : List ℕ) → font_fault file ≡ None → (slot : ℕ) → may_divide slot ≡ true
-    → length (table_in_slot (tables_of kind file) slot) ≤ MAX_FILE
-short_table kind file accepted slot t =
-    let P : Reading → Type 0 = λ r. length (unwrap_or (read_by r slot (table_of file (slot_tag slot))) []) ≤ MAX_FILE in
-    elim (read_divided kind slot t) [
-      | inl unread ↦ subst P (sym unread) (omega arith)
-      | inr read ↦ subst P (sym read) (table_small file (slot_tag slot) accepted)
-    ]
-
 -- nor is an outline
 pub outline_small : (file : List ℕ) (g : ℕ) → font_fault file ≡ None → length (outline_of file g) ≤ MAX_FILE
 unfolding outline_of table_or_empty
@@ -98,6 +92,30 @@ outline_small file g accepted =
 -- what an accepted file means to cuts of a kind is a font
 pub is_font : (kind : Kind) (file : List ℕ) → fault_of kind file ≡ None → IsFont (font_of kind file)
 is_font kind file accepted = IsFont-by (settings kind) (settings-are kind) file accepted
+
+-- a file that is accepted for cuts of a kind is a font
+pub opened : (kind : Kind) (file : List ℕ) → fault_of kind file ≡ None → font_fault file ≡ None
+opened kind file accepted = font_fault-by (settings kind) (settings-are kind) file accepted
+
+-- nor is one that cuts of a kind may divide
+pub sequences_short : (kind : Kind) (file : List ℕ) → fault_of kind file ≡ None
+    → length (table_in_slot (tables_of kind file) SEQUENCES) ≤ MAX_FILE
+sequences_short kind file ok = good_small (glyph_count (tables_of kind file))
+    (table_in_slot (tables_of kind file) SEQUENCES) (is_font kind file ok).sequences
+
+short_table : (kind : Kind) (file : List ℕ) → fault_of kind file ≡ None → (slot : ℕ) → may_divide slot ≡ true
+    → length (table_in_slot (tables_of kind file) slot) ≤ MAX_FILE
+short_table kind file ok slot t = elim (cases_eq slot SEQUENCES) [
+  | inl e ↦ subst (λ (s : ℕ). length (table_in_slot (tables_of kind file) s) ≤ MAX_FILE) (sym e)
+      (sequences_short kind file ok)
+  | inr other ↦
+      let P : Reading → Type 0 = λ r. length (unwrap_or (read_by r slot (table_in_file file slot)) []) ≤ MAX_FILE in
+      elim (read_divided kind slot t) [
+        | inl unread ↦ subst P (sym unread) (omega arith)
+        | inr read ↦ subst P (sym read) (subst (λ (o : Option (List ℕ)). length (unwrap_or o []) ≤ MAX_FILE)
+            (sym (table_in_file-tag file slot other)) (table_small file (slot_tag slot) (opened kind file ok)))
+      ]
+]
 
 -- the count of glyphs is read of a table that is copied
 pub count_as : (kind : Kind) (file : List ℕ) → glyph_count_of file ≡ glyph_count (tables_of kind file)
@@ -131,36 +149,42 @@ plain_further : (file : List ℕ) (slot : ℕ) → SLOTS ≤ slot → (plain_fon
 plain_further file slot past =
     let made : is_made slot ≡ true = or_right _ (nat_le SLOTS slot) (le-leb SLOTS slot past) in rw made refl
 
-layout_further : (file : List ℕ) (slot : ℕ) → FIRST_VARIATION ≤ slot → tables_of Layout file slot ≡ None
+layout_further : (file : List ℕ) (slot : ℕ) → FIRST_VARIATION ≤ slot → slot ≢ SEQUENCES
+    → tables_of Layout file slot ≡ None
 unfolding layout_settings
-layout_further file slot far =
+layout_further file slot far other =
     let never : is_never_in_layout slot ≡ true = or_right _ (nat_le FIRST_VARIATION slot) (le-leb FIRST_VARIATION slot
     far) in
-    ap (λ b. read_by (cond b absent (cond (is_layout_slot slot) unvarying as_it_is)) slot
-    (table_of file (slot_tag slot))) never
+    ap (λ r. read_by r slot (table_in_file file slot)) (read_there layout_settings AreSettings-layout slot other
+    ∙ ap (λ b. cond b absent (cond (is_layout_slot slot) unvarying as_it_is)) never)
 
-variable_further : (file : List ℕ) (slot : ℕ) → ALL_SLOTS ≤ slot → tables_of Variable file slot ≡ None
+variable_further : (file : List ℕ) (slot : ℕ) → ALL_SLOTS ≤ slot → slot ≢ SEQUENCES
+    → tables_of Variable file slot ≡ None
 unfolding variable_settings
-variable_further file slot far =
+variable_further file slot far other =
     let never : is_never_copied slot ≡ true = or_right _ (nat_le ALL_SLOTS slot) (le-leb ALL_SLOTS slot far) in
-    ap (λ b. read_by (cond b absent as_it_is) slot (table_of file (slot_tag slot))) never
+    ap (λ r. read_by r slot (table_in_file file slot)) (read_there variable_settings AreSettings-variable slot other
+    ∙ ap (λ b. cond b absent as_it_is) never)
 
-pub unread : (kind : Kind) (file : List ℕ) (slot : ℕ) → SLOTS ≤ slot → slots_of kind ≤ slot
+pub unread : (kind : Kind) (file : List ℕ) (slot : ℕ) → SLOTS ≤ slot → slots_of kind ≤ slot → slot ≢ SEQUENCES
     → tables_of kind file slot ≡ None
-unread Full file slot past far = ap (λ F. F.copied slot) (full_font-is file) ∙ plain_further file slot past
-unread Lean file slot past far = lean_tables-is file slot ∙ plain_further file slot past
-unread Layout file slot past far = layout_further file slot far
-unread Variable file slot past far = variable_further file slot far
+unread Full file slot past far other = ap (λ F. F.copied slot) (full_font-is file) ∙ plain_further file slot past
+unread Lean file slot past far other = lean_tables-is file slot ∙ plain_further file slot past
+unread Layout file slot past far other = layout_further file slot far other
+unread Variable file slot past far other = variable_further file slot far other
 
--- full cuts read none
+-- cuts with no such table have no variation sequences either, and full cuts have none of them
+pub no_sequences : (kind : Kind) (file : List ℕ) → slots_of kind ≡ SLOTS → tables_of kind file SEQUENCES ≡ None
+no_sequences Full file plain = ap (λ F. F.copied SEQUENCES) (full_font-is file)
+    ∙ plain_further file SEQUENCES (omega arith)
+no_sequences Lean file plain = lean_tables-is file SEQUENCES ∙ plain_further file SEQUENCES (omega arith)
+no_sequences Layout file plain = absurd (omega (arith, plain))
+no_sequences Variable file plain = absurd (omega (arith, plain))
+
 pub full_further : (kind : Kind) (file : List ℕ) (slot : ℕ) → kind ≡ Full → SLOTS ≤ slot
     → tables_of kind file slot ≡ None
-full_further kind file slot full past =
-    let last : slots_of kind ≡ SLOTS = ap slots_of full in unread kind file slot past (omega (arith, last, past))
-
--- a file that is accepted for cuts of a kind is a font
-pub opened : (kind : Kind) (file : List ℕ) → fault_of kind file ≡ None → font_fault file ≡ None
-opened kind file accepted = font_fault-by (settings kind) (settings-are kind) file accepted
+full_further kind file slot full past = subst (λ (k : Kind). tables_of k file slot ≡ None) (sym full)
+    (ap (λ F. F.copied slot) (full_font-is file) ∙ plain_further file slot past)
 
 -- no mark stands past the marks
 has-past : (marks : List Bool) (g : ℕ) → has marks g ≡ true → g < length marks
@@ -226,7 +250,7 @@ looked_up bytes (Some x) t most is small = subst (λ (o : Option (List ℕ)). le
 -- no table that such cuts may divide is bad, or too long
 pub fine_tables : (kind : Kind) (file : List ℕ) → fault_of kind file ≡ None → AreFine (tables_of kind file)
 fine_tables kind file ok = fine_font (font_of kind file) (is_font kind file ok)
-    (short_table kind file (opened kind file ok))
+    (short_table kind file ok)
 
 pub not_refused : (kind : Kind) (file : List ℕ) → fault_of kind file ≡ None → has_refused (tables_of kind file) ≡ false
 not_refused kind file ok = refused-is (tables_of kind file) ∙ (is_font kind file ok).variations

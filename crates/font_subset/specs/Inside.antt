@@ -11,13 +11,15 @@ use Rattle.font_theory.specs.Cut.{Format}
 use Rattle.font_theory.specs.Closed.{is_bad_layout_in, is_start}
 use Rattle.font_theory.specs.Kinds.{fault_of, gsub_bytes, settings, tables_of}
 use Rattle.font_theory.specs.Links.{links}
+use Rattle.font_theory.specs.declared.kinds.TheConstants.{SEQUENCES}
+use Rattle.sfnt_bytes.specs.declared.directory.TheConstants.{MAX_FILE}
 use Rattle.font_theory.specs.declared.kinds.Kind.{Kind}
 use Rattle.font_theory.specs.declared.kinds.Kind.TheVariants.{Full, Layout, Lean, Variable}
 use Rattle.sfnt_bytes.specs.declared.tag.TheConstants.{BASE, GDEF, GPOS, GSUB, KERN}
 use Rattle.sfnt_bytes.specs.declared.tag.TheConstants.{ALL_SLOTS, FIRST_VARIATION, SLOTS}
 use Rattle.std.specs.Prelude.{◌≡◌, ◌≢◌, ℕ, ◌+◌, ◌<◌, ◌≤◌, ◌⊎◌, ◌↔◌, nat_lt, not, ◌&&◌, ◌||◌, Bool, false, true}
 use Rattle.std.specs.Prelude.{List, [], length, slice_index_or, Option, None, IfSome}
-use Rattle.std.specs.Prelude.{MatchOption, Some, nat_le}
+use Rattle.std.specs.Prelude.{MatchOption, Some, nat_le, unwrap_or}
 use Rattle.std.specs.Option.{option_or}
 use Rattle.font_theory.specs.Content.{Wanted}
 use Rattle.font_subset.specs.CutOfKind.{closed_of, in_file}
@@ -123,10 +125,12 @@ pub record AreFixed (file : List ℕ) (base gdef gpos gsub kern : Option (List �
   pub gsub_is : gsub ≡ tables_of Layout file GSUB
   pub kern_is : kern ≡ tables_of Layout file KERN
 
--- what is read of the tables of layout and of variations of a file
-pub record IsRead (kind : Kind) (file : List ℕ) (fixed : Option (List ℕ)) : Type 0 where
+-- what is read of the tables of layout and of variations of a file, and of its variation sequences
+pub record IsRead (kind : Kind) (file : List ℕ) (fixed : Option (List ℕ)) (sequences : Option (List ℕ)) : Type 0 where
   pub inside : tags_fault kind file ≡ None
   pub fixed_is : fixed ≡ fixed_read kind file
+  pub sequences_are : sequences ≡ tables_of kind file SEQUENCES
+  pub short : length (unwrap_or sequences []) ≤ MAX_FILE
 
 -- what is held of a font that was opened for cuts of a kind: its tables that have something of each glyph
 pub record IsOpenedForKind (kind : Kind) (file : List ℕ) (divided : OpenParts) : Type 0 where

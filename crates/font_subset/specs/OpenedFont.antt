@@ -1,5 +1,5 @@
 -- Why a font is not opened for cuts of a kind, this project's own.
-use Rattle.std.specs.Prelude.{◌≡◌, ◌≢◌, ℕ, Bool, if◌then◌else◌, List, [], ◌∷◌, Option, Some}
+use Rattle.std.specs.Prelude.{◌≡◌, ◌≢◌, ℕ, Bool, true, if◌then◌else◌, List, [], ◌∷◌, Option, Some}
 use Rattle.std.specs.Option.{option_map}
 use Rattle.sfnt_bytes.specs.Lines.{first_of_lines, when}
 use Rattle.sfnt_bytes.specs.Refusals.{tag_lines}
@@ -8,15 +8,15 @@ use Rattle.font_file.specs.declared.font_error.FontError.{FontError}
 use Rattle.font_file.specs.declared.font_error.FontError.TheVariants.{BadLayout, BadVariations, Directory}
 use Rattle.font_theory.specs.Closed.{is_bad_layout_in}
 use Rattle.font_theory.specs.Content.{is_bad_variations_in}
-use Rattle.font_theory.specs.Kinds.{fault_of, settings, tables_of}
+use Rattle.font_theory.specs.Kinds.{fault_of, keeps_sequences, settings, tables_of}
 use Rattle.font_theory.specs.declared.kinds.Kind.{Kind}
-use Rattle.font_theory.specs.declared.kinds.Kind.TheVariants.{Full, Layout, Lean}
+use Rattle.font_theory.specs.declared.kinds.Kind.TheVariants.{Full, Lean}
 use Rattle.font_subset.specs.declared.open_error.OpenError.{OpenError}
 use Rattle.font_subset.specs.declared.open_error.OpenError.TheVariants.{NoMemory, Refused}
 
--- out of memory, which is asked for where layout tables are read without what varies; or the refusal of the file
+-- out of memory, which is asked for where variation sequences are read; or the refusal of the file
 abbrev pub IsOpenRefusal : Kind → List ℕ → OpenError → Type 0
-IsOpenRefusal kind file NoMemory = kind ≡ Layout
+IsOpenRefusal kind file NoMemory = keeps_sequences kind ≡ true
 IsOpenRefusal kind file (Refused error) = fault_of kind file ≡ Some error
 
 -- the refusals of a file for cuts that are closed under links, in their order: of the font, of the directory, of

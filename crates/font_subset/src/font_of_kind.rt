@@ -26,7 +26,7 @@ use std::marker::Model;
 pub struct FontOfKind<'f, 'a, A: Allocator = Global> {
     tables: FurtherTables<'f, 'a, A>,
     // Those that have something of each glyph, as the kind reads them.
-    divided: OpenTables<'a>,
+    divided: OpenTables<'a, A>,
 }
 
 // Its value is the kind, and the file of the font.
@@ -60,7 +60,7 @@ impl<'f, 'a, A: Allocator> FontOfKind<'f, 'a, A> {
     {
         recall_accepted(font);
         let tables = FurtherTables::unread(kind, font);
-        match OpenTables::open(&tables) {
+        match OpenTables::unsequenced(&tables) {
             Some(divided) => FontOfKind { tables, divided },
             // What is refused is read by other cuts alone.
             None => unreachable!(),
@@ -119,7 +119,7 @@ impl<'f, 'a, A: Allocator> FontOfKind<'f, 'a, A> {
     }
 
     /// Returns the tables that have something of each glyph, as cuts of the kind read them.
-    pub(crate) fn divided(&self) -> &OpenTables<'a>
+    pub(crate) fn divided(&self) -> &OpenTables<'a, A>
         ensures { AreOpen (tables_of self.now.0 self.now.1) result.now }
     {
         &self.divided
@@ -153,7 +153,7 @@ impl<'f, 'a, A: Memory + Copy> FontOfKind<'f, 'a, A> {
     {
         recall_accepted(font);
         let tables = FurtherTables::read(alloc, kind, font)?;
-        match OpenTables::open(&tables) {
+        match OpenTables::open(alloc, &tables)? {
             Some(divided) => Ok(FontOfKind { tables, divided }),
             None => Err(OpenError::Refused(FontError::BadVariations)),
         }
@@ -165,7 +165,7 @@ impl<'f, 'a, A: Memory + Copy> FontOfKind<'f, 'a, A> {
     ///
     /// # Errors
     ///
-    /// `NoMemory` if out of memory, of layout cuts alone, and `Refused` with the first refusal that applies, of
+    /// `NoMemory` if out of memory, and `Refused` with the first refusal that applies, of
     /// layout and variable cuts alone.
     pub fn open(
         alloc: A,

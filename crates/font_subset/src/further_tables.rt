@@ -1,5 +1,6 @@
 //! The tables of layout and of variations of a font, as cuts of a kind read them: not at all, without what varies, or as
-//! they are. OpenType 1.9, BASE; GDEF; GPOS; GSUB; kern; OpenType Font Variations Overview.
+//! they are; and its variation sequences. OpenType 1.9, BASE; GDEF; GPOS; GSUB; kern; OpenType Font Variations Overview;
+//! cmap, Format 14: Unicode variation sequences.
 ghost use Rattle.std.specs.Prelude.{◌≡◌, ◌≤◌, ◌<◌, false, true, Err, None, IfOk, MatchOption, MatchResult, OnErr, length, option_copied};
 ghost use Rattle.std.specs.Option.{option_map};
 ghost use Rattle.sfnt_bytes.specs.Directory.{is_layout_slot, slot_tag, table_of as table_of_tag};
@@ -7,8 +8,9 @@ ghost use Rattle.sfnt_bytes.specs.Memory.{IsRefused};
 ghost use Rattle.sfnt_bytes.specs.declared.directory.TheConstants.{MAX_FILE};
 ghost use Rattle.sfnt_bytes.specs.declared.tag.TheConstants.{FIRST_VARIATION, SLOTS as KEPT_SLOTS};
 ghost use Rattle.font_file.specs.Font.{font_fault};
-ghost use Rattle.font_theory.specs.Kinds.{tables_of};
+ghost use Rattle.font_theory.specs.Kinds.{sequences_of_file, tables_of};
 ghost use Rattle.font_theory.specs.Links.{fixed};
+ghost use Rattle.font_theory.specs.declared.kinds.TheConstants.{SEQUENCES as SEQUENCE_SLOT};
 ghost use Rattle.font_theory.specs.declared.kinds.Kind.TheVariants.{Layout as LayoutKind};
 ghost use Rattle.font_subset.specs.Inside.{fixed_read, slots_of, tags_fault};
 ghost use Rattle.font_subset.specs.OpenedFont.{IsOpenRefusal};
@@ -16,12 +18,14 @@ ghost use Rattle.font_subset.specs.declared.open_error.OpenError.TheVariants.{No
 
 use crate::accepted::{copied, recall_accepted};
 use crate::open_error::OpenError;
-use divided_tables::TablesBySlot;
+use divided_tables::{TablesBySlot, table_of_font};
 use font_file::{Font, FontError};
 use font_layout::fixed_table;
-use font_theory::Kind;
+use font_map::Chart;
+use font_theory::{Kind, SEQUENCES};
 use sfnt_bytes::{
-    ALL_SLOTS, BASE, DirError, FIRST_VARIATION, GDEF, GPOS, GSUB, KERN, Memory, NoMemory, SLOTS,
+    ALL_SLOTS, BASE, CMAP, DirError, FIRST_VARIATION, GDEF, GPOS, GSUB, KERN, Memory, NoMemory,
+    SLOTS,
 };
 use std::alloc::{Allocator, Global};
 use std::marker::Model;
@@ -50,6 +54,19 @@ fn check_tags(kind: Kind, font: &Font<'_>) -> Result<(), DirError>
         Kind::Layout => font.tables().directory().check_layout(),
         Kind::Variable => font.tables().directory().check_variable(),
     }
+}
+
+// Returns the variation sequences of an accepted font as a table, which is empty where there are none.
+fn sequences_of<A: Memory + Copy>(alloc: A, font: &Font<'_>) -> Result<Vec<u8, A>, NoMemory>
+    ensures table { IfOk result (λ v. v.items ≡ sequences_of_file font.now) }
+    ensures small { IfOk result (λ v. length v.items ≤ MAX_FILE) }
+    ensures memory { OnErr result (IsRefused A.refuses) }
+{
+    recall_accepted(font);
+    let cmap = font.tables().directory().table(CMAP).unwrap_or(&[]);
+    // A chart is quick in whatever order the map stands.
+    let chart = Chart::of(alloc, font.mapping())?;
+    table_of_font(alloc, cmap, &chart, font.tables().glyph_count())
 }
 
 /// Returns the table of a slot that cuts of a kind read, as it is.
@@ -232,11 +249,14 @@ pub(crate) struct FurtherTables<'f, 'a, A: Allocator = Global> {
     font: &'f Font<'a>,
     // Those of layout without what varies, where the kind reads them so.
     fixed: Option<FixedTables<'f, 'a, A>>,
+    // The table of variation sequences, where the kind reads them.
+    sequences: Option<Vec<u8, A>>,
 }
 
 // Its value is the kind, and the file of the font.
 impl<'f, 'a, A: Allocator> Model for FurtherTables<'f, 'a, A> {
     ghost use Rattle.std.specs.Prelude.{ℕ, List};
+    ghost use Rattle.std.specs.Option.{option_map};
     ghost use Rattle.font_theory.specs.declared.kinds.Kind.{Kind};
     ghost use Rattle.font_subset.specs.Inside.{IsRead};
 
@@ -244,7 +264,7 @@ impl<'f, 'a, A: Allocator> Model for FurtherTables<'f, 'a, A> {
 
     ghost view = { λ t. (t.kind, t.font.now) };
 
-    ghost invariant = { λ t. IsRead t.kind t.font.now t.fixed };
+    ghost invariant = { λ t. IsRead t.kind t.font.now t.fixed (option_map (λ v. v.items) t.sequences) };
 }
 
 impl<'f, 'a, A: Allocator> Drop for FurtherTables<'f, 'a, A> {
@@ -253,6 +273,7 @@ impl<'f, 'a, A: Allocator> Drop for FurtherTables<'f, 'a, A> {
             kind: _,
             font: _,
             fixed: _fixed,
+            sequences: _sequences,
         } = self;
     }
 }
@@ -280,7 +301,13 @@ impl<'f, 'a, A: Memory + Copy> FurtherTables<'f, 'a, A> {
             return Err(OpenError::Refused(FontError::Directory(error)));
         }
         let fixed = FixedTables::for_kind(alloc, kind, font)?;
-        Ok(FurtherTables { kind, font, fixed })
+        let sequences = sequences_of(alloc, font)?;
+        Ok(FurtherTables {
+            kind,
+            font,
+            fixed,
+            sequences: Some(sequences),
+        })
     }
 }
 
@@ -294,6 +321,7 @@ impl<'f, 'a, A: Allocator> FurtherTables<'f, 'a, A> {
             kind,
             font,
             fixed: None,
+            sequences: None,
         }
     }
 
@@ -315,6 +343,18 @@ impl<'f, 'a, A: Allocator> FurtherTables<'f, 'a, A> {
         self.font
     }
 
+    /// Returns the table of variation sequences, where cuts of the kind read them.
+    fn sequences(&self) -> Option<&[u8]>
+        ensures table { MatchOption result (tables_of self.now.0 self.now.1 SEQUENCE_SLOT ≡ None)
+            (λ b. tables_of self.now.0 self.now.1 SEQUENCE_SLOT ≡ Some b.now) }
+        ensures small { MatchOption result Unit (λ b. length b.now ≤ MAX_FILE) }
+    {
+        match &self.sequences {
+            Some(bytes) => Some(bytes),
+            None => None,
+        }
+    }
+
     /// Returns the table of a slot, where cuts of the kind read it.
     pub(crate) fn table(&self, slot: usize) -> Option<&[u8]>
         requires { KEPT_SLOTS ≤ slot }
@@ -322,6 +362,9 @@ impl<'f, 'a, A: Allocator> FurtherTables<'f, 'a, A> {
             (λ b. tables_of self.now.0 self.now.1 slot ≡ Some b.now) }
         ensures small { MatchOption result Unit (λ b. length b.now ≤ MAX_FILE) }
     {
+        if slot == SEQUENCES {
+            return self.sequences();
+        }
         if slots_of(self.kind) <= slot {
             return None;
         }
@@ -349,5 +392,9 @@ impl<'f, 'a, A: Allocator> TablesBySlot<'a> for FurtherTables<'f, 'a, A> {
             return None;
         }
         table_of(self.kind, self.font, slot)
+    }
+
+    fn sequences(&self) -> Option<&[u8]> {
+        self.sequences()
     }
 }

@@ -48,7 +48,7 @@ fn has_no_outlines(font: &Font<'_>, from: u16, to: u16) -> bool
 /// What tells of a font which of its glyphs are there.
 pub(crate) struct Presence<'f, 'a, A: Allocator> {
     font: &'f FontOfKind<'f, 'a, A>,
-    tables: &'f OpenTables<'a>,
+    tables: &'f OpenTables<'a, A>,
 }
 
 // Its value is the kind, and the file of the font.

@@ -540,7 +540,7 @@ impl<'f, 'a, A: Allocator> Selection<'f, 'a, A> {
     }
 
     /// Returns the tables of the font that have something of each glyph, of which full cuts need none.
-    pub(crate) fn divided(&self) -> Option<&OpenTables<'a>>
+    pub(crate) fn divided(&self) -> Option<&OpenTables<'a, A>>
         ensures { MatchOption result (self.now.0 ≡ Full)
             (λ tables. AreOpen (tables_of self.now.0 self.now.1.0) tables.now) }
     {

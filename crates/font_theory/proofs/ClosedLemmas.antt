@@ -1,15 +1,12 @@
 -- What is wanted, closed under links, and cuts that follow links by themselves.
 use Rattle.std.proofs.Common.{◌≡◌, ℕ, ◌<◌, ◌≤◌, Bool, true, false, cond, nat_lt, ◌&&◌, ◌||◌, ◌⊎◌, inl, inr, List, []}
-use Rattle.std.proofs.Common.{◌∷◌, length}
-use Rattle.std.proofs.Common.{refl, sym, ◌∙◌, ap, subst, arith, unwrap_or, Some, None}
+use Rattle.std.proofs.Common.{◌∷◌, length, refl, sym, ◌∙◌, ap, subst, arith, unwrap_or, Some, None}
 use Rattle.std.specs.Bool.{Decides}
 use Rattle.std.proofs.Math.Bool.{and_comm}
 use Rattle.std.proofs.Math.Path.{fun_ext}
 use Rattle.codes.proofs.MapLemmas.{restricted-restricted}
 use Rattle.std.proofs.lemmas.Bool.{and_from, and_parts, both_ways, cases_Bool, cases_lt, false_from_ne_true, lt-ltb}
-use Rattle.std.proofs.lemmas.Bool.{ltb-true}
-use Rattle.std.proofs.lemmas.Bool.{le-leb, or_cases, or_left, or_parts, or_right}
-use Rattle.sfnt_bytes.specs.declared.tag.TheConstants.{ALL_SLOTS}
+use Rattle.std.proofs.lemmas.Bool.{ltb-true, or_cases, or_left, or_parts, or_right}
 use Rattle.font_file.specs.Font.{map_of}
 use Rattle.font_glyph.proofs.FoundLemmas.{any_decides}
 use Rattle.std.proofs.lemmas.Bool.Decides.{same_from_decides, Decides-like, Decides-or}
@@ -24,18 +21,17 @@ use Rattle.font_glyph.proofs.ReachLemmas.{reached_decides}
 use Rattle.font_theory.specs.Bytes.{padded}
 use Rattle.font_theory.specs.Closed.{NUMBERS, closed, is_linked_kept, is_linked_root, is_start, linked_content}
 use Rattle.font_theory.specs.Content.{CODES, Content, Font, IsFont, Wanted, content, either_wanted, glyph_count}
-use Rattle.font_theory.specs.Content.{is_kept, is_root, is_seed, of_codes, plain_font, read_back}
+use Rattle.font_theory.specs.Content.{is_kept, is_root, is_seed, of_codes, plain_font, read_back, table_in_slot}
+use Rattle.font_theory.specs.Content.{is_never_filled}
 use Rattle.font_theory.specs.Cut.{cut}
 use Rattle.font_theory.specs.File.{Writing, adjustment_in, bytes_in_slot, current_writing, file, groups_of_content}
 use Rattle.font_theory.specs.File.{outlines_of}
 use Rattle.font_theory.specs.Kinds.{AreSettings, Settings, fault_by, font_by, format_by, has_record, tables_by}
-use Rattle.font_theory.specs.Kinds.{there_by}
+use Rattle.font_theory.specs.Kinds.{there_by, reduced}
 use Rattle.font_theory.specs.Parting.{Partition, divided, parts_of, undivided_content}
 use Rattle.font_theory.proofs.ContentLemmas.{nothing_either}
 use Rattle.sfnt_bytes.specs.declared.directory.TheConstants.{MAX_FILE}
 use Rattle.sfnt_bytes.specs.declared.tag.TheConstants.{GSUB}
-use Rattle.font_theory.specs.Content.{table_in_slot}
-use Rattle.font_theory.specs.Kinds.{reduced}
 use Rattle.font_theory.specs.Links.{links}
 use Rattle.font_theory.proofs.KindFileLemmas.{font_by-cut}
 use Rattle.font_theory.proofs.WordLemmas.{reduced-undivided}
@@ -46,6 +42,8 @@ use Rattle.font_theory.proofs.SettingsLemmas.{IsFont-by}
 use Rattle.font_theory.proofs.WantedLemmas.{IsKept, Reach-along, component-below, is_kept-decides, is_root-tells}
 use Rattle.font_theory.proofs.WantedLemmas.{is_root-there, is_seed-code, is_seed-more, is_seed-tells, is_seed-zero}
 use Rattle.font_theory.proofs.WantedLemmas.{restricted-cases, seeds-below}
+use Rattle.font_theory.specs.Difference.{PARTED}
+use Rattle.font_theory.specs.declared.kinds.TheConstants.{SEQUENCES}
 
 or_false : (b : Bool) → (b || false) ≡ b
 or_false true = refl
@@ -340,14 +338,20 @@ empty-is : (b : List ℕ) → nat_lt 0 (length b) ≡ false → b ≡ []
 empty-is [] h = refl
 empty-is (x ∷ b) h = absurd (both_ways (nat_lt 0 (length (x ∷ b))) h (lt-ltb 0 (length (x ∷ b)) (omega arith)))
 
-record-tells : (outline : List ℕ) (parts : ℕ → List ℕ) → has_record outline parts ≡ false → (outline ≡ [])
-    × ((slot : ℕ) → slot < ALL_SLOTS → parts slot ≡ [])
+-- past the slots that may have parts all are empty
+pub past_parted : (slot : ℕ) → PARTED ≤ slot → is_never_filled slot ≡ true
+unfolding PARTED
+past_parted slot past = or_right _ _ (lt-ltb SEQUENCES slot (omega (arith, past)))
+
+-- what has no record has no outline and no part
+pub record-tells : (outline : List ℕ) (parts : ℕ → List ℕ) → has_record outline parts ≡ false → (outline ≡ [])
+    × ((slot : ℕ) → slot < PARTED → parts slot ≡ [])
 unfolding has_record
 record-tells outline parts h =
     let w = or_parts _ _ h in (
       empty-is outline w.0,
       λ slot low. empty-is (parts slot) (false_from_ne_true (nat_lt 0 (length (parts slot)))
-          (λ t. both_ways _ w.1 ((any_decides (λ x. nat_lt 0 (length (parts x))) ALL_SLOTS).1 (slot, low, t)))),
+          (λ t. both_ways _ w.1 ((any_decides (λ x. nat_lt 0 (length (parts x))) PARTED).1 (slot, low, t)))),
     )
 
 module _ (s : Settings) (is : AreSettings s) (links : ℕ → List ℕ) (codes : ℕ → Bool) (X : List ℕ)
@@ -371,9 +375,9 @@ module _ (s : Settings) (is : AreSettings s) (links : ℕ → List ℕ) (codes :
       let w = record-tells ((plain_font X).outline g) (λ slot. parts_of s.partition (tables_by s X) slot g)
       (gone g f (subst (λ (n : ℕ). g < n) count low)) in (
         w.0,
-        (λ slot. elim (cases_lt slot ALL_SLOTS) [
+        (λ slot. elim (cases_lt slot PARTED) [
           | inl few ↦ w.1 slot few
-          | inr past ↦ okD.unparted slot g (or_right _ _ (le-leb ALL_SLOTS slot past))
+          | inr past ↦ okD.unparted slot g (past_parted slot past)
         ]),
         f,
       )

@@ -1,6 +1,5 @@
 -- The content of a font for what is wanted.
-use Rattle.std.proofs.Common.{◌≡◌, ◌≢◌, ℕ, Bool, true, false, cond, nat_eq, ◌&&◌, ◌⊎◌, inl, inr, List, [], refl}
-use Rattle.std.proofs.Common.{sym}
+use Rattle.std.proofs.Common.{◌≡◌, ◌≢◌, ℕ, Bool, true, false, cond, nat_eq, ◌&&◌, ◌⊎◌, inl, inr, List, [], refl, sym}
 use Rattle.std.proofs.Common.{◌∙◌, ap, subst, unwrap_or, Some}
 use Rattle.std.proofs.Math.Bool.{and_comm}
 use Rattle.std.proofs.Math.Path.{fun_ext}
@@ -16,9 +15,8 @@ use Rattle.font_theory.specs.Bytes.{padded}
 use Rattle.font_theory.specs.Content.{Content, Font, IsClosedContent, IsFont, Wanted, content, everything, glyph_count}
 use Rattle.font_theory.specs.Content.{is_kept, is_root, is_seed, of_codes, read_back, wanted_within}
 use Rattle.font_theory.proofs.WantedLemmas.{IsKept, Reach-along, Reach-back, is_kept-decides, is_root-more}
-use Rattle.font_theory.proofs.WantedLemmas.{is_root-same}
-use Rattle.font_theory.proofs.WantedLemmas.{is_root-seed, is_root-tells, is_root-there, is_seed-code, is_seed-more}
-use Rattle.font_theory.proofs.WantedLemmas.{kept-there, restricted-below, restricted-past, seeds-roots}
+use Rattle.font_theory.proofs.WantedLemmas.{is_root-same, is_root-seed, is_root-tells, is_root-there, is_seed-code}
+use Rattle.font_theory.proofs.WantedLemmas.{is_seed-more, kept-there, restricted-below, restricted-past, seeds-roots}
 use Rattle.font_theory.proofs.PaddedLemmas.{IsRecord-nil, IsRecord-padded, component-alike, padded-padded}
 
 -- contents of equal parts are equal
@@ -59,6 +57,7 @@ IsFont-read_back F A ok = record {
   hhea = ok.hhea;
   hmtx = ok.hmtx;
   variations = ok.variations;
+  sequences = ok.sequences;
 }
 
 -- a content depends on the tables, on the map on the wanted codes, on the wanted glyphs that are there, and on the

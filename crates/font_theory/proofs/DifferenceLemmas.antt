@@ -1,21 +1,22 @@
 -- The first difference of two contents.
-use Rattle.std.proofs.Common.{◌≡◌, ℕ, ◌<◌, ◌≤◌, Bool, true, false, cond, not, nat_eq, nat_lt, ◌&&◌, ◌||◌, ◌⊎◌, inl}
-use Rattle.std.proofs.Common.{inr, List}
-use Rattle.std.proofs.Common.{[], ◌∷◌, find, get_or, refl, sym, ◌∙◌, ap, subst, arith, Option, Some, None}
+use Rattle.std.proofs.Common.{◌≡◌, ℕ, ◌<◌, ◌≤◌, Bool, true, false, cond, not, nat_eq, nat_lt, ◌&&◌, ◌||◌, ◌⊎◌, inl, inr}
+use Rattle.std.proofs.Common.{List, [], ◌∷◌, find, get_or, refl, sym, ◌∙◌, ap, subst, arith, Option, Some, None}
 use Rattle.std.specs.List.{range_with_len}
 use Rattle.std.specs.Option.{option_eq, option_map}
 use Rattle.std.specs.Str.{bytes_eq}
-use Rattle.std.proofs.lemmas.Bool.{cases_eq, cases_lt, eqb-true, eq-eqb, le-leb, lt-ltb, ltb-true, ne_eqb, not-false}
-use Rattle.std.proofs.lemmas.Bool.{both_ways, cases_Bool, false_from_ne_true, or_parts, or_right}
+use Rattle.std.proofs.lemmas.Bool.{cases_eq, cases_lt, eqb-true, eq-eqb, lt-ltb, ltb-true, ne_eqb, not-false, both_ways}
+use Rattle.std.proofs.lemmas.Bool.{cases_Bool, false_from_ne_true, or_parts, or_right}
 use Rattle.std.proofs.lemmas.Slice.Eq.{bytes_eq-Decides}
 use Rattle.sfnt_bytes.specs.Directory.{slot_at}
 use Rattle.sfnt_bytes.specs.Lines.{first_of_lines}
+use Rattle.std.proofs.lemmas.List.FromFn.{get_or-range_with_len}
 use Rattle.sfnt_bytes.specs.declared.tag.TheConstants.{ALL_SLOTS}
 use Rattle.sfnt_bytes.proofs.LineLemmas.{option_map-none}
 use Rattle.sfnt_bytes.proofs.PlaceLemmas.{slot_at_low}
 use Rattle.codes.proofs.OrderLemmas.{find_none}
-use Rattle.font_theory.specs.Content.{CODES, Content, IsClosedContent, everything, glyph_count, is_never_copied}
+use Rattle.font_theory.specs.Content.{CODES, Content, IsClosedContent, everything, glyph_count, is_never_filled}
 use Rattle.font_theory.specs.Content.{read_back}
+use Rattle.font_theory.specs.declared.kinds.TheConstants.{SEQUENCES}
 use Rattle.font_theory.specs.Difference.{are_different, difference, first_slot, is_different_code, is_different_glyph}
 use Rattle.font_theory.specs.Difference.{PARTED, are_apart, has_other_part, is_different_table}
 use Rattle.font_glyph.proofs.FoundLemmas.{any_decides}
@@ -72,10 +73,14 @@ first_slot-none p slot h low =
     subst (λ (s : ℕ). p s ≡ false) (slot_at-place_of slot low) (find-none (λ k. p (slot_at k)) ALL_SLOTS (place_of slot)
     (option_map-none slot_at _ h) (place_of-low slot low))
 
-pub no_slot : (p : ℕ → Bool) → ((slot : ℕ) → p slot ≡ false) → first_slot p ≡ None
-no_slot p fails =
+pub no_slot_below : (p : ℕ → Bool) → ((slot : ℕ) → slot < ALL_SLOTS → p slot ≡ false) → first_slot p ≡ None
+no_slot_below p fails =
     ap (option_map slot_at) (find_none (λ k. p (slot_at k)) 0 (range_with_len 0 ALL_SLOTS)
-    (λ k low. fails (slot_at (get_or (range_with_len 0 ALL_SLOTS) k 0))))
+    (λ k low. let at = get_or-range_with_len 0 ALL_SLOTS k 0 low in
+    fails (slot_at (get_or (range_with_len 0 ALL_SLOTS) k 0)) (slot_at_low _ (omega (arith, at, low)))))
+
+pub no_slot : (p : ℕ → Bool) → ((slot : ℕ) → p slot ≡ false) → first_slot p ≡ None
+no_slot p fails = no_slot_below p (λ slot low. fails slot)
 
 -- a table that tells two contents apart is one of those that there are
 pub difference-table : (K L : Content) (slot : ℕ) → difference K L ≡ Some (AtTable slot) → slot < ALL_SLOTS
@@ -125,9 +130,9 @@ same_glyph K L g a b h ea eb =
     ((bytes_eq-Decides a b).0 (not-false _ w.0), x.0, apart-tells (K.there g) (L.there g) x.1)
 
 -- parts in each slot
-slot_parted : (slot : ℕ) → slot < ALL_SLOTS → slot < PARTED
+slot_parted : (slot : ℕ) → slot ≤ SEQUENCES → slot < PARTED
 unfolding PARTED
-slot_parted slot low = low
+slot_parted slot low = omega (arith, low)
 
 pub same_part : (K L : Content) (g slot : ℕ) → has_other_part K L g ≡ false → slot < PARTED
     → K.parts slot g ≡ L.parts slot g
@@ -188,17 +193,17 @@ glyph_same K L g h parts there = go (K.outline g) (L.outline g) refl refl
         λ i. not ((bytes_eq-Decides a b).1 (h a b x y) i)
         || (part_same K L g (parts a b x y) i || apart-same (K.there g) (L.there g) (there a b x y) i)
 
--- the slots that a cut makes anew
-never_past : (slot : ℕ) → ALL_SLOTS ≤ slot → is_never_copied slot ≡ true
-never_past slot past = or_right _ _ (le-leb ALL_SLOTS slot past)
+-- the slots that are always empty
+never_past : (slot : ℕ) → SEQUENCES < slot → is_never_filled slot ≡ true
+never_past slot past = or_right _ _ (lt-ltb SEQUENCES slot past)
 
 module _ (K L : Content) (okK : IsClosedContent K) (okL : IsClosedContent L) where
-  both_none : (slot : ℕ) → is_never_copied slot ≡ true → K.copied slot ≡ L.copied slot
+  both_none : (slot : ℕ) → is_never_filled slot ≡ true → K.copied slot ≡ L.copied slot
   both_none slot made = okK.font.slots slot made ∙ sym (okL.font.slots slot made)
 
-  pub Agree-from_none : difference K L ≡ None → Agree K L
+  pub Agree-from_none : K.copied SEQUENCES ≡ L.copied SEQUENCES → difference K L ≡ None → Agree K L
   unfolding difference
-  Agree-from_none h =
+  Agree-from_none same h =
       let w : (first_slot (is_different_table K L) ≡ None)
       × (find (is_different_code K L) (range_with_len 0 CODES) ≡ None)
       × (find (is_different_glyph K L) (range_with_len 0 (glyph_count K.copied)) ≡ None) = line_of-none _ _ _ h in
@@ -206,10 +211,13 @@ module _ (K L : Content) (okK : IsClosedContent K) (okL : IsClosedContent L) whe
         head = same_head K L (first_slot-none (is_different_table K L) 6 w.0 (omega arith));
         copied = λ slot. elim (cases_lt slot ALL_SLOTS) [
           | inl low ↦ elim (cases_eq slot 6) [
-            | inl e ↦ both_none slot (subst (λ (x : ℕ). is_never_copied x ≡ true) (sym e) refl)
+            | inl e ↦ both_none slot (subst (λ (x : ℕ). is_never_filled x ≡ true) (sym e) refl)
             | inr other ↦ same_table K L slot other (first_slot-none (is_different_table K L) slot w.0 low)
           ]
-          | inr past ↦ both_none slot (never_past slot past)
+          | inr past ↦ elim (cases_eq slot SEQUENCES) [
+            | inl e ↦ subst (λ (x : ℕ). K.copied x ≡ L.copied x) (sym e) same
+            | inr other ↦ both_none slot (never_past slot (omega (arith, past, other)))
+          ]
         ];
         map = λ c some also. elim (cases_lt c CODES) [
           | inl low ↦ same_code K L c (find-none (is_different_code K L) CODES c w.1 low) some also
@@ -224,11 +232,11 @@ module _ (K L : Content) (okK : IsClosedContent K) (okL : IsClosedContent L) whe
             IsKept-below (read_back K) everything okK.font g (some-held K okK g a ea) in
             let same = same_glyph K L g a b (find-none (is_different_glyph K L) (glyph_count K.copied) g w.2 low) ea eb
             in
-            elim (cases_lt slot ALL_SLOTS) [
-              | inl few ↦ same_part K L g slot same.1 (slot_parted slot few)
-              | inr past ↦
+            elim (cases_lt SEQUENCES slot) [
+              | inl past ↦
                   okK.font.unparted slot g (never_past slot past)
                   ∙ sym (okL.font.unparted slot g (never_past slot past))
+              | inr few ↦ same_part K L g slot same.1 (slot_parted slot few)
             ];
         there = λ g a b ea eb.
             let low : g < glyph_count K.copied =
@@ -248,9 +256,9 @@ module _ (K L : Content) (okK : IsClosedContent K) (okL : IsClosedContent L) whe
       λ i. line_of (t i) (c i) (g i)
 
   -- whether they agree is decided
-  pub Agree-decided : Agree K L ⊎ (¬ Agree K L)
-  Agree-decided = go (cases_option (difference K L))
+  pub Agree-decided : K.copied SEQUENCES ≡ L.copied SEQUENCES → Agree K L ⊎ (¬ Agree K L)
+  Agree-decided same = go (cases_option (difference K L))
     where
       go : ((difference K L ≡ None) ⊎ ((d : Difference) × (difference K L ≡ Some d))) → Agree K L ⊎ (¬ Agree K L)
-      go (inl e) = inl (Agree-from_none e)
+      go (inl e) = inl (Agree-from_none same e)
       go (inr w) = inr (λ a. let n : None ≡ Some w.0 = sym (none_from-Agree a) ∙ w.1 in cc)

@@ -1,31 +1,31 @@
 -- Divided fonts and contents, and what they are written as.
-use Rattle.std.proofs.Common.{◌≡◌, ℕ, ◌<◌, ◌≤◌, Bool, true, false, cond, nat_lt, ◌&&◌, ◌⊎◌, inl, inr, List, [], refl}
-use Rattle.std.proofs.Common.{sym}
-use Rattle.std.proofs.Common.{◌∙◌, ap, subst, is_some, Option, Some, None}
+use Rattle.std.proofs.Common.{◌≡◌, ℕ, ◌<◌, ◌≤◌, Bool, true, false, cond, nat_lt, ◌&&◌, ◌⊎◌, inl, inr, List, [], ◌∷◌}
+use Rattle.std.proofs.Common.{refl, ◌≢◌, sym, arith, ◌∙◌, ap, subst, is_some, Option, Some, None, not}
 use Rattle.std.specs.Option.{option_map, option_map_or}
 use Rattle.std.proofs.Math.Path.{fun_ext}
-use Rattle.std.proofs.Common.{not}
-use Rattle.std.proofs.lemmas.Bool.{cases_lt, le-leb, lt-ltb, not-false, or_right}
-use Rattle.sfnt_bytes.specs.Lines.{when}
+use Rattle.std.proofs.lemmas.Bool.{cases_Bool, cases_eq, cases_lt, lt-ltb, not-false, or_right}
+use Rattle.sfnt_bytes.specs.Lines.{first_of_lines, when}
+use Rattle.sfnt_bytes.proofs.LineLemmas.{first_of_lines-none_at, when-none}
 use Rattle.sfnt_bytes.specs.declared.tag.TheConstants.{ALL_SLOTS}
 use Rattle.font_glyph.specs.RecordMap.{record_in}
 use Rattle.font_theory.specs.Bytes.{padded}
-use Rattle.font_theory.specs.Content.{Content, Font, IsClosedContent, IsFont, Wanted, content, everything}
-use Rattle.font_theory.specs.Content.{glyph_count, is_kept}
-use Rattle.font_theory.specs.Content.{read_back}
+use Rattle.font_theory.specs.Content.{Content, Font, IsClosedContent, IsFont, Wanted, content, everything, glyph_count}
+use Rattle.font_theory.specs.Content.{is_kept, read_back}
 use Rattle.font_theory.specs.Agreement.{Agree, both}
 use Rattle.font_theory.specs.Cut.{Arises, Format}
 use Rattle.font_theory.specs.Cut.Arises.{of_file, of_two}
+use Rattle.font_theory.specs.Difference.{first_slot}
 use Rattle.font_theory.specs.Kinds.{reduced}
+use Rattle.font_theory.specs.declared.kinds.TheConstants.{SEQUENCES}
 use Rattle.font_theory.specs.Parting.{IsPart, IsPartition, Partition, Tables, context, divided, frames, parts_of}
 use Rattle.font_theory.specs.Parting.{AlwaysFits, fits_at, misfit_by, undivided_content, wholes}
 use Rattle.font_theory.proofs.ArisesLemmas.{IsClosed-arises}
 use Rattle.font_theory.proofs.ContentLemmas.{content-path, nothing_either, parts-path}
-use Rattle.font_theory.proofs.DifferenceLemmas.{first_slot-none, no_slot}
+use Rattle.font_theory.proofs.DifferenceLemmas.{first_slot-none, no_slot, no_slot_below}
 use Rattle.font_theory.proofs.HeldLemmas.{cases_option, outline_is}
-use Rattle.font_theory.proofs.PartLemmas.{AreAlike, IsFont-alike, context-alike, fits-here, frames-frames, frames-other}
-use Rattle.font_theory.proofs.PartLemmas.{frames-wholes, glyph_count-alike, good-font, is_kept-alike, map_map, map_none}
-use Rattle.font_theory.proofs.PartLemmas.{parts_of-at, parts_of-none, parts_of-past, wholes-other}
+use Rattle.font_theory.proofs.PartLemmas.{AreAlike, IsFont-alike, context-alike, fits-here, frames-frames}
+use Rattle.font_theory.proofs.PartLemmas.{frames-other, frames-wholes, glyph_count-alike, good-font, is_kept-alike}
+use Rattle.font_theory.proofs.PartLemmas.{map_map, map_none, parts_of-at, parts_of-none, parts_of-past, wholes-other}
 use Rattle.font_theory.proofs.WantedLemmas.{IsKept-below, is_kept-decides}
 
 -- bytes are a part of tables with these frames, or there are none
@@ -39,18 +39,34 @@ pub record IsDivided (p : Partition) (K : Content) : Type 0 where
   pub fit : (slot : ℕ) → fits_at p K.copied K.parts slot ≡ true
 
 -- where no table is named, parts have room in each
-misfit-none : (p : Partition) (K : Content) → ((slot : ℕ) → ALL_SLOTS ≤ slot → K.copied slot ≡ None)
+abbrev lines_of : Option ℕ → Bool → List (Option ℕ)
+lines_of tags room = tags ∷ when (not room) SEQUENCES ∷ []
+
+misfit-none : (p : Partition) (K : Content) → ((slot : ℕ) → SEQUENCES < slot → K.copied slot ≡ None)
     → misfit_by p K ≡ None → (slot : ℕ) → fits_at p K.copied K.parts slot ≡ true
 unfolding misfit_by fits_at
-misfit-none p K past none slot = elim (cases_lt slot ALL_SLOTS) [
-  | inl low ↦ not-false _ (first_slot-none (λ s. not (fits_at p K.copied K.parts s)) slot none low)
-  | inr high ↦ ap (λ o. option_map_or (λ t. (p slot).fits (context K.copied) t (K.parts slot)) o true) (past slot high)
-]
+misfit-none p K past none slot =
+    let lines = lines_of (first_slot (λ s. not (fits_at p K.copied K.parts s))) (fits_at p K.copied K.parts SEQUENCES)
+    in
+    elim (cases_lt slot ALL_SLOTS) [
+      | inl low ↦
+          not-false _ (first_slot-none (λ s. not (fits_at p K.copied K.parts s)) slot
+          (first_of_lines-none_at lines 0 none) low)
+      | inr from ↦ elim (cases_eq slot SEQUENCES) [
+        | inl e ↦ subst (λ (s : ℕ). fits_at p K.copied K.parts s ≡ true) (sym e)
+            (not-false _ (when-none _ SEQUENCES (first_of_lines-none_at lines 1 none)))
+        | inr other ↦
+            ap (λ o. option_map_or (λ t. (p slot).fits (context K.copied) t (K.parts slot)) o true)
+            (past slot (omega (arith, from, other)))
+      ]
+    ]
 
 pub none-misfit : (p : Partition) (K : Content) → ((slot : ℕ) → fits_at p K.copied K.parts slot ≡ true)
     → misfit_by p K ≡ None
 unfolding misfit_by
-none-misfit p K fit = no_slot (λ s. not (fits_at p K.copied K.parts s)) (λ s. ap not (fit s))
+none-misfit p K fit =
+    let none = no_slot (λ s. not (fits_at p K.copied K.parts s)) (λ s. ap not (fit s)) in
+    λ i. first_of_lines (lines_of (none i) (fit SEQUENCES i))
 
 -- no table is named where parts always have room
 pub misfit-always : (p : Partition) → AlwaysFits p → (K : Content) → misfit_by p K ≡ None
@@ -61,6 +77,39 @@ misfit-always p always K = none-misfit p K (λ slot. go slot (K.copied slot))
         → option_map_or (λ t. (p slot).fits (context K.copied) t (K.parts slot)) o true ≡ true
     go slot None = refl
     go slot (Some t) = always slot (context K.copied) t (K.parts slot)
+
+-- where those in the tables of tags do, none is named but that of sequences
+pub misfit-sequences : (p : Partition)
+    → ((slot : ℕ) → slot ≢ SEQUENCES → (c : Tables) (frame : List ℕ) (parts : ℕ → List ℕ)
+    → (p slot).fits c frame parts ≡ true) → (K : Content)
+    → misfit_by p K ≡ when (not (fits_at p K.copied K.parts SEQUENCES)) SEQUENCES
+unfolding misfit_by fits_at
+misfit-sequences p always K =
+    (λ i. first_of_lines (lines_of (tags i) (fits_at p K.copied K.parts SEQUENCES)))
+    ∙ last (when (not (fits_at p K.copied K.parts SEQUENCES)) SEQUENCES)
+  where
+    go : (slot : ℕ) → slot ≢ SEQUENCES → (o : Option (List ℕ))
+        → option_map_or (λ t. (p slot).fits (context K.copied) t (K.parts slot)) o true ≡ true
+    go slot other None = refl
+    go slot other (Some t) = always slot other (context K.copied) t (K.parts slot)
+
+    tags : first_slot (λ s. not (fits_at p K.copied K.parts s)) ≡ None
+    tags = no_slot_below (λ s. not (fits_at p K.copied K.parts s))
+        (λ s low. ap not (go s (λ e. omega (arith, e, low)) (K.copied s)))
+
+    last : (o : Option ℕ) → first_of_lines (None ∷ o ∷ []) ≡ o
+    last None = refl
+    last (Some slot) = refl
+
+pub misfit-tagged : (p : Partition) →
+    ((slot : ℕ) → slot ≢ SEQUENCES → (c : Tables) (frame : List ℕ) (parts : ℕ → List ℕ)
+    → (p slot).fits c frame parts ≡ true) → (K : Content) → (misfit_by p K ≡ None) ⊎ (misfit_by p K ≡ Some SEQUENCES)
+misfit-tagged p always K = go (fits_at p K.copied K.parts SEQUENCES) (misfit-sequences p always K)
+  where
+    go : (room : Bool) → misfit_by p K ≡ when (not room) SEQUENCES
+        → (misfit_by p K ≡ None) ⊎ (misfit_by p K ≡ Some SEQUENCES)
+    go true e = inl e
+    go false e = inr e
 
 low-context : (c : Tables) (g : ℕ) → g < glyph_count c → g < glyph_count (context c)
 unfolding context glyph_count
@@ -74,15 +123,18 @@ module _ (p : Partition) (is : IsPartition p) where
   pub IsFont-divided : (F : Font) → IsFont F → IsFont (divided p F)
   unfolding frames
   IsFont-divided F ok = IsFont-alike F (divided p F) ok (λ slot. (p slot).frame (context F.copied))
-      (frames-other p is F.copied) (λ slot. refl) (λ slot t. (is.law slot).frame_good (context F.copied) t) refl refl
+      (frames-other p is F.copied) (λ slot. refl) (λ slot t e. (is.law slot).frame_good (context F.copied) t) refl refl
       refl refl (λ slot g never. parts_of-none p F.copied slot g (ok.slots slot never))
 
-  pub IsFont-whole : (K : Content) → IsFont (read_back K) → IsFont (read_back (undivided_content p K))
+  pub IsFont-whole : (K : Content) → IsFont (read_back K) → ((slot : ℕ) → fits_at p K.copied K.parts slot ≡ true)
+      → IsFont (read_back (undivided_content p K))
   unfolding wholes
-  IsFont-whole K ok = IsFont-alike (read_back K) (read_back (undivided_content p K)) ok
+  IsFont-whole K ok fit = IsFont-alike (read_back K) (read_back (undivided_content p K)) ok
       (λ slot t. (p slot).whole (context K.copied) t (K.parts slot)) (wholes-other p is K.copied K.parts)
-      (λ slot. refl) (λ slot t. (is.law slot).whole_good (context K.copied) t (K.parts slot)) refl refl refl
-      refl (λ slot g never. refl)
+      (λ slot. refl)
+      (λ slot t e good. (is.law slot).whole_good (context K.copied) t (K.parts slot) good
+      (fits-here p K.copied K.parts slot t e (fit slot)))
+      refl refl refl refl (λ slot g never. refl)
 
   -- the context of tables is that of their frames
   context-frame : (c d : Tables) → frames p c ≡ d → context d ≡ context c
@@ -242,16 +294,17 @@ module _ (p : Partition) (is : IsPartition p) where
       subst (IsDivided p) (ap (λ (F : Font). content F A) (sym (read X)) ∙ e) (IsDivided-content (fonts X) A (ok X h))
   IsDivided-arises R fonts ok read told K (of_two L M l m agree fit e) =
       let first = IsClosed-arises R (λ X h. subst IsFont (sym (read X)) (IsFont-divided (fonts X) (ok X h))) L l in
-      let none : (slot : ℕ) → ALL_SLOTS ≤ slot → L.copied slot ≡ None =
-      λ slot past. first.font.slots slot (or_right _ _ (le-leb ALL_SLOTS slot past)) in
+      let none : (slot : ℕ) → SEQUENCES < slot → L.copied slot ≡ None =
+      λ slot past. first.font.slots slot (or_right _ _ (lt-ltb SEQUENCES slot past)) in
       subst (IsDivided p) e (IsDivided-both L M agree
       (misfit-none p (both L M) none (ap (λ (f : Content → Option ℕ). f (both L M)) (sym told) ∙ fit))
       (IsDivided-arises R fonts ok read told L l) (IsDivided-arises R fonts ok read told M m))
 
   -- what is written of a closed divided content is closed
-  pub IsClosed-whole_content : (K : Content) → IsClosedContent K → IsClosedContent (undivided_content p K)
-  IsClosed-whole_content K ok = record {
-    font = IsFont-whole K ok.font;
+  pub IsClosed-whole_content : (K : Content) → IsClosedContent K
+      → ((slot : ℕ) → fits_at p K.copied K.parts slot ≡ true) → IsClosedContent (undivided_content p K)
+  IsClosed-whole_content K ok fit = record {
+    font = IsFont-whole K ok.font fit;
     closed = content-path refl refl (ap (λ (C : Content). C.map) ok.closed)
         ((λ i. λ g. when (kept i g) (padded (record_in K.outline g))) ∙ fun_ext (outline_is K ok))
         (parts-path (λ slot g. nothing_either (is_kept (read_back (undivided_content p K)) everything g) [] refl))

@@ -1,6 +1,6 @@
 -- What an accepted file means is a font.
-use Rattle.std.proofs.Common.{◌≡◌, ◌≢◌, ℕ, ◌<◌, ◌≤◌, true, false, nat_lt, inl, inr, List, [], length, get_or}
-use Rattle.std.proofs.Common.{refl, sym, ◌∙◌, ap, subst, arith, unwrap_or, Option, Some, None}
+use Rattle.std.proofs.Common.{◌≡◌, ◌≢◌, ℕ, ◌<◌, ◌≤◌, true, false, nat_lt, inl, inr, List, [], length, get_or, refl, sym}
+use Rattle.std.proofs.Common.{◌∙◌, ap, subst, arith, unwrap_or, Option, Some, None}
 use Rattle.std.specs.Option.{option_map, option_map_or, option_or}
 use Rattle.std.proofs.lemmas.Bool.{cases_Bool, cases_lt, le-ltb, lt-ltb, ltb-false}
 use Rattle.sfnt_bytes.specs.Directory.{table_of}
@@ -27,8 +27,8 @@ use Rattle.font_file.specs.declared.font_error.FontError.TheVariants.{Directory,
 use Rattle.font_file.proofs.FontLemmas.{directory_fault-accepted, font_fault_is, is_record-accepted}
 use Rattle.font_theory.specs.Content.{CODES, IsFont, IsPlain, glyph_count, is_made, is_never_copied, metric_count}
 use Rattle.font_theory.specs.Content.{plain_font, table_in_slot}
-use Rattle.font_theory.proofs.LinkLemmas.{is_bad_variations_in-none, never-in_plain}
-use Rattle.font_theory.proofs.LinkLemmas.{never-layout}
+use Rattle.font_theory.proofs.LinkLemmas.{is_bad_variations_in-none, never-in_plain, filled-never, never-layout}
+use Rattle.font_theory.proofs.SequencePartLemmas.{good_none}
 use Rattle.font_theory.proofs.CutHeadLemmas.{cut_head-cut_head, head-size, is_bad_head-cut_head}
 use Rattle.font_theory.proofs.PaddedLemmas.{IsRecord-nil}
 
@@ -132,7 +132,7 @@ IsFont-accepted file accepted =
         | inl low ↦ let t = lt-ltb g (glyph_count_of file) low in rw (t, n) (is_record-accepted file g accepted low)
         | inr past ↦ let f = le-ltb g (glyph_count_of file) past in rw f (IsRecord-nil _)
       ];
-      slots = λ slot never. IsPlain-font_of file slot (never-made slot never);
+      slots = λ slot never. IsPlain-font_of file slot (never-made slot (filled-never slot never));
       unparted = λ _ _ _. refl;
       there_below = λ g h. cc;
       head_form = cut_head-cut_head (head_of file) (head-size (head_of file) sound.head);
@@ -141,6 +141,7 @@ IsFont-accepted file accepted =
       hhea = (λ i. is_bad_hhea (hhea-slot file i) (n i)) ∙ sound.hhea;
       hmtx = (λ i. is_bad_hmtx (hmtx-slot file i) (metric_count-file file i) (n i)) ∙ sound.hmtx;
       variations = is_bad_variations_in-none (plain_font file).copied refl;
+      sequences = good_none (glyph_count (plain_font file).copied);
     }
 
 -- a file that is accepted, or refused for another reason, is not too large

@@ -1,7 +1,6 @@
 -- Contents that agree, and their union.
 use Rattle.std.proofs.Common.{◌≡◌, ℕ, ◌<◌, ◌≤◌, Bool, true, false, cond, nat_eq, nat_lt, ◌&&◌, ◌||◌, ◌⊎◌, inl, inr}
-use Rattle.std.proofs.Common.{List, []}
-use Rattle.std.proofs.Common.{refl, sym, ◌∙◌, ap, subst, is_some, unwrap_or, Option, Some, None, arith}
+use Rattle.std.proofs.Common.{List, [], refl, sym, ◌∙◌, ap, subst, is_some, unwrap_or, Option, Some, None, arith}
 use Rattle.std.proofs.Math.Path.{fun_ext}
 use Rattle.std.specs.Option.{option_or}
 use Rattle.std.proofs.lemmas.Bool.{both_ways, cases_lt, false_from_ne_true, or_cases, or_left, or_right}
@@ -20,9 +19,8 @@ use Rattle.font_theory.proofs.ContentLemmas.{content-path, content-same, nothing
 use Rattle.font_theory.proofs.HeldLemmas.{IsHeld, cases_option, held-some, parts-none, some-held, some-padded}
 use Rattle.font_theory.proofs.HeldLemmas.{there-none}
 use Rattle.font_theory.proofs.WantedLemmas.{IsKept, Reach-along, is_kept-decides, is_root-more, is_root-seed}
-use Rattle.font_theory.proofs.WantedLemmas.{is_root-tells}
-use Rattle.font_theory.proofs.WantedLemmas.{is_root-there, is_seed-code, is_seed-more, is_seed-tells, is_seed-zero}
-use Rattle.font_theory.proofs.WantedLemmas.{restricted-past}
+use Rattle.font_theory.proofs.WantedLemmas.{is_root-tells, is_root-there, is_seed-code, is_seed-more, is_seed-tells}
+use Rattle.font_theory.proofs.WantedLemmas.{is_seed-zero, restricted-past}
 
 pub Agree-sym : (K L : Content) → Agree K L → Agree L K
 Agree-sym K L h = record {
@@ -128,6 +126,7 @@ IsFont-both K L okK okL agree =
       hhea = okK.font.hhea;
       hmtx = okK.font.hmtx;
       variations = okK.font.variations;
+      sequences = okK.font.sequences;
     }
   where
     below : (g : ℕ) (o : Option (List ℕ)) → (K.there g ≡ true → g < glyph_count K.copied)

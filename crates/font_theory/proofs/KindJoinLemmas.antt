@@ -1,12 +1,12 @@
 -- Joins of cuts with any settings: when contents agree, and what their union is written of.
 use Rattle.std.proofs.Common.{◌≡◌, ◌≢◌, ℕ, ◌<◌, ◌≤◌, true, false, Bool, cond, ◌&&◌, nat_lt, ◌⊎◌, inl, inr, List, []}
-use Rattle.std.proofs.Common.{◌++◌}
-use Rattle.std.proofs.Common.{length, get_or, refl, sym, ◌∙◌, ap, subst, arith, Option, Some, None, is_some, unwrap_or}
+use Rattle.std.proofs.Common.{◌++◌, length, get_or, refl, sym, ◌∙◌, ap, subst, arith, Option, Some, None, is_some}
+use Rattle.std.proofs.Common.{unwrap_or, not, ◌||◌}
 use Rattle.std.specs.Int.Bits.{bit_or, or_self, or_zero_l, or_zero_r}
 use Rattle.std.specs.List.{concat}
 use Rattle.std.specs.Option.{option_map, option_map_or}
 use Rattle.std.proofs.Math.Path.{fun_ext}
-use Rattle.std.proofs.lemmas.Bool.{cases_eq, ne_eqb}
+use Rattle.std.proofs.lemmas.Bool.{cases_eq, ne_eqb, cases_Bool, cases_lt, lt-ltb, or_right}
 use Rattle.std.proofs.lemmas.List.{ext_get_or}
 use Rattle.std.proofs.lemmas.List.FromFn.{get_or-map-range_with_len, length-map-range_with_len}
 use Rattle.sfnt_bytes.specs.Lines.{when}
@@ -16,14 +16,15 @@ use Rattle.font_variations.specs.MadeGvar.{data_at, gvar_bytes, offset_bytes, tu
 use Rattle.font_variations.proofs.LawLemmas.{listed_same}
 use Rattle.font_theory.specs.Bytes.{padded}
 use Rattle.font_theory.specs.Agreement.{Agree, both}
-use Rattle.font_theory.specs.Content.{Content, Font, IsClosedContent, IsFont, content, everything, glyph_count, is_kept}
-use Rattle.font_theory.specs.Content.{read_back, table_in_slot}
+use Rattle.font_theory.specs.Content.{Content, Font, IsClosedContent, IsFont, content, everything, glyph_count}
+use Rattle.font_theory.specs.Content.{is_kept, read_back, table_in_slot}
 use Rattle.font_theory.specs.Cut.{Arises, CanJoin, Format, content_of_all, joined}
 use Rattle.font_theory.specs.Cut.Arises.{of_file}
-use Rattle.font_theory.specs.Kinds.{AgreeBy, AreSettings, IsUnionBy, IsWrittenUnion, Settings, by_variations}
-use Rattle.font_theory.specs.Kinds.{font_by, format_by, has_record, read_by, there_by}
+use Rattle.font_theory.specs.Kinds.{AgreeBy, AreSettings, IsUnionBy, IsWrittenUnion, Settings, by_variations, font_by}
+use Rattle.font_theory.specs.Kinds.{format_by, has_record, pairs_of_glyph, read_by, there_by}
+use Rattle.font_theory.specs.SequenceTable.{pairs_of_parts, sequence_table}
 use Rattle.font_theory.specs.Parted.{either_bytes, gvar_with, holder, is_entry, laid, metrics, nameless, pairs_of}
-use Rattle.font_theory.specs.Parted.{place_in_entry, variation_data, variations}
+use Rattle.font_theory.specs.Parted.{place_in_entry, sequences, variation_data, variations}
 use Rattle.font_theory.specs.Parting.{IsPartition, Parting, Partition, Tables, context, divided, frames, may_divide}
 use Rattle.font_theory.specs.Parting.{parts_of, undivided, undivided_content, wholes}
 use Rattle.font_theory.proofs.ArisesLemmas.{IsClosed-arises}
@@ -31,22 +32,19 @@ use Rattle.font_theory.proofs.CutLemmas.{IsCut-joined, content_of_all-joined}
 use Rattle.font_theory.proofs.DividedLemmas.{IsDivided, IsFont-whole, divided-whole, is_kept-divided, parts-whole}
 use Rattle.font_theory.proofs.DifferenceLemmas.{apart-same, same_part}
 use Rattle.font_theory.specs.Difference.{PARTED, are_apart, are_different, has_other_part, is_different_glyph}
-use Rattle.font_theory.proofs.SettingsLemmas.{marked-by}
+use Rattle.font_theory.proofs.SettingsLemmas.{marked-by, AreRead-by, IsDivided-by, format_by-is, has_record-padded}
+use Rattle.font_theory.proofs.SettingsLemmas.{means-cut, there-written}
 use Rattle.font_glyph.specs.RecordMap.{record_in}
-use Rattle.sfnt_bytes.specs.declared.tag.TheConstants.{ALL_SLOTS}
 use Rattle.std.specs.Str.{bytes_eq}
-use Rattle.std.proofs.Common.{not, nat_le, ◌||◌}
-use Rattle.std.proofs.lemmas.Bool.{cases_Bool, cases_lt, le-leb, or_right}
 use Rattle.std.proofs.lemmas.Slice.Eq.{bytes_eq-Decides}
 use Rattle.font_theory.proofs.EntryLemmas.{get_or-laid, length-laid}
 use Rattle.font_theory.proofs.HeldLemmas.{cases_option, parts-none}
 use Rattle.font_theory.proofs.KindLemmas.{DividesAs}
-use Rattle.font_theory.proofs.PartLemmas.{context-alike, fits-here, frames-other, glyph_count-alike, good-font, map_map}
-use Rattle.font_theory.proofs.PartLemmas.{wholes-other, wholes-undivided}
+use Rattle.font_theory.proofs.PartLemmas.{context-alike, fits-here, frames-other, glyph_count-alike, good-font}
+use Rattle.font_theory.proofs.PartLemmas.{map_map, wholes-other, wholes-undivided}
 use Rattle.font_theory.proofs.PartedLemmas.{gvar_with-again}
-use Rattle.font_theory.proofs.SettingsLemmas.{AreRead-by, IsDivided-by, format_by-is, has_record-padded, means-cut}
-use Rattle.font_theory.proofs.SettingsLemmas.{there-written}
 use Rattle.font_theory.proofs.WordLemmas.{map_alike, part-data}
+use Rattle.font_theory.specs.declared.kinds.TheConstants.{SEQUENCES}
 
 some_tells : (b : Bool) (x a : List ℕ) → when b x ≡ Some a → (b ≡ true) × (x ≡ a)
 some_tells true x a e = (refl, cc)
@@ -207,7 +205,7 @@ module _ (p : Partition) (is : IsPartition p) (K L : Content) (okK : IsClosedCon
   same_tables = sym (fun_ext agree.copied)
 
   font_K : IsFont (read_back (undivided_content p K))
-  font_K = IsFont-whole p is K okK.font
+  font_K = IsFont-whole p is K okK.font divK.fit
 
   own_frame : (slot : ℕ) (t : List ℕ) → c slot ≡ Some t → (p slot).frame (context c) t ≡ t
   unfolding frames
@@ -292,8 +290,8 @@ module _ (p : Partition) (is : IsPartition p) (K L : Content) (okK : IsClosedCon
   no_parts = refl
 
   other_table : (p POST ≡ undivided) ⊎ (p POST ≡ nameless) → (slot : ℕ) → slot ≢ GVAR → slot ≢ HMTX → slot ≢ VMTX
-      → wU slot ≡ wK slot
-  other_table how slot a b d =
+      → slot ≢ SEQUENCES → wU slot ≡ wK slot
+  other_table how slot a b d n =
       elim (cases_eq slot POST) [
         | inl e ↦ subst (λ (x : ℕ). wU x ≡ wK x) (sym e) (elim how [
           | inl u ↦ wholes-undivided p c POST u U.parts ∙ sym (wholes-undivided p c POST u K.parts)
@@ -305,6 +303,7 @@ module _ (p : Partition) (is : IsPartition p) (K L : Content) (okK : IsClosedCon
               ne_eqb slot HMTX b,
               ne_eqb slot POST f,
               ne_eqb slot VMTX d,
+              ne_eqb slot SEQUENCES n,
             ) refl in
             wholes-other p is c U.parts slot whole ∙ sym (wholes-other p is c K.parts slot whole)
       ]
@@ -351,10 +350,41 @@ module _ (p : Partition) (is : IsPartition p) (K L : Content) (okK : IsClosedCon
       ∙ ap (λ f. f t) (gvar_with-same own data_of_either n
       (λ g low. (λ i. cond (is_some (K.outline g)) (data_K e g low i) (data_L e g low i)))))
 
+  -- the sequences of both
+  abbrev pairs_of_either : ℕ → List ℕ
+  pairs_of_either g = cond (is_some (K.outline g)) (pairs_of_glyph wK g) (pairs_of_glyph wL g)
+
+  abbrev united_sequences : List ℕ
+  united_sequences = sequence_table (pairs_of_parts (glyph_count wK) pairs_of_either)
+
+  whole_is : (own : ℕ → List ℕ) (t : List ℕ) → sequences.whole (context wK) (sequences.frame (context wK) t) own
+      ≡ sequence_table (pairs_of_parts (glyph_count wK) own)
+  unfolding sequences context glyph_count
+  whole_is own t = refl
+
+  sequences_either : (p SEQUENCES ≡ sequences) ⊎ (c SEQUENCES ≡ None)
+      → wU SEQUENCES ≡ option_map (λ _. united_sequences) (wK SEQUENCES)
+  sequences_either (inr none) = nothing U.parts ∙ sym (ap (option_map (λ _. united_sequences)) (nothing K.parts))
+    where
+      nothing : (parts : ℕ → ℕ → List ℕ) → wholes p c parts SEQUENCES ≡ None
+      nothing parts = wholes-slot p SEQUENCES (p SEQUENCES) refl c parts
+          ∙ ap (option_map (λ f. (p SEQUENCES).whole (context c) f (parts SEQUENCES))) none
+  sequences_either (inl e) =
+      let own : ℕ → List ℕ =
+      λ g. cond (is_some (K.outline g)) (parts_of p wK SEQUENCES g) (parts_of p wL SEQUENCES g) in
+      either_parts SEQUENCES
+      ∙ (λ i. option_map (λ t. (e i).whole (context wK) ((e i).frame (context wK) t) own) (wK SEQUENCES))
+      ∙ map_alike (λ t. sequences.whole (context wK) (sequences.frame (context wK) t) own) (λ _. united_sequences)
+      (wK SEQUENCES)
+      (λ t here. whole_is own t
+      ∙ (λ i. sequence_table (pairs_of_parts (glyph_count wK) (λ g. cond (is_some (K.outline g))
+      (parts_of-slot p (λ _. sequences) SEQUENCES e wK g i) (parts_of-slot p (λ _. sequences) SEQUENCES e wL g i)))))
+
   pub union-written : (p GVAR ≡ variations) ⊎ (c GVAR ≡ None) → (p HMTX ≡ undivided) ⊎ (p HMTX ≡ metrics HHEA)
       → (p POST ≡ undivided) ⊎ (p POST ≡ nameless) → (p VMTX ≡ undivided) ⊎ (p VMTX ≡ metrics VHEA)
+      → (p SEQUENCES ≡ sequences) ⊎ (c SEQUENCES ≡ None)
       → IsWrittenUnion (undivided_content p K) (undivided_content p L) (undivided_content p U)
-  union-written gvar hmtx post vmtx = record {
+  union-written gvar hmtx post vmtx pairs = record {
     head = refl;
     map = refl;
     outline = refl;
@@ -362,6 +392,7 @@ module _ (p : Partition) (is : IsPartition p) (K L : Content) (okK : IsClosedCon
     hmtx = either_table HMTX HHEA hmtx;
     vmtx = either_table VMTX VHEA vmtx;
     gvar = gvar_either gvar;
+    sequences = sequences_either pairs;
   }
 
 -- the same of files, and of contents that accepted files come to
@@ -407,6 +438,12 @@ module _ (s : Settings) (is : AreSettings s) (how : DividesAs s) where
     | inr e ↦ inr (sym (AreRead-by s is K k GVAR) ∙ ap (λ r. read_by r GVAR (K.copied GVAR)) e)
   ]
 
+  no_sequences : (K : Content) → Arises R K → (p SEQUENCES ≡ sequences) ⊎ (K.copied SEQUENCES ≡ None)
+  no_sequences K k = elim how.sequences [
+    | inl e ↦ inl e
+    | inr e ↦ inr (sym (AreRead-by s is K k SEQUENCES) ∙ ap (λ r. read_by r SEQUENCES (K.copied SEQUENCES)) e)
+  ]
+
   pub unions : (K L : Content) → Arises R K → Arises R L → Agree K L
       → IsUnionBy p (undivided_content p K) (undivided_content p L) (undivided_content p (both K L))
       × IsWrittenUnion (undivided_content p K) (undivided_content p L) (undivided_content p (both K L))
@@ -414,7 +451,7 @@ module _ (s : Settings) (is : AreSettings s) (how : DividesAs s) where
       let divK = IsDivided-by s is K k in let divL = IsDivided-by s is L l in (
         union-by p is.partition K L (closed K k) (closed L l) divK divL agree,
         union-written p is.partition K L (closed K k) (closed L l) divK divL agree (no_gvar K k) how.hmtx how.post
-            how.vmtx,
+            how.vmtx (no_sequences K k),
       )
 
   -- a join has what the two files have
@@ -455,7 +492,7 @@ module _ (s : Settings) (is : AreSettings s) (K L : Content) (k : Arises (format
   parts_told same slot = elim (cases_lt slot PARTED) [
     | inl low ↦ same_part K L g slot same low
     | inr past ↦
-        let never = or_right _ (nat_le ALL_SLOTS slot) (le-leb ALL_SLOTS slot past) in
+        let never = or_right _ (nat_lt SEQUENCES slot) (lt-ltb SEQUENCES slot (omega (arith, past))) in
         (closed_by s is K k).font.unparted slot g never ∙ sym ((closed_by s is L l).font.unparted slot g never)
   ]
 

@@ -1,24 +1,24 @@
 -- Lean cuts beside cuts of other kinds, and layout cuts beside variable ones.
 use Rattle.std.proofs.Common.{◌≡◌, ℕ, zero, suc, ◌+◌, ◌-◌, ◌%◌, ◌<◌, ◌≤◌, ◌&&◌, Bool, true, false, cond, nat_lt, ◌⊎◌}
-use Rattle.std.proofs.Common.{inl, inr}
-use Rattle.std.proofs.Common.{List, [], ◌∷◌, find, get_or, length, map, sum, refl, sym, ◌∙◌, ap, subst, arith}
-use Rattle.std.proofs.Common.{Option, Some, None, unwrap_or}
+use Rattle.std.proofs.Common.{◌≢◌, inl, inr, nat_eq, List, [], ◌∷◌, find, get_or, length, map, sum, refl, sym, ◌∙◌, ap}
+use Rattle.std.proofs.Common.{subst, arith, Option, Some, None, unwrap_or}
 use Rattle.std.specs.List.{range_with_len}
 use Rattle.std.specs.Option.{option_map, option_map_or, option_or}
 use Rattle.std.proofs.Math.Bool.{and_comm}
 use Rattle.std.proofs.Math.Path.{fun_ext}
-use Rattle.std.proofs.lemmas.Bool.{cases_Bool, cases_eq, ne_eqb}
+use Rattle.std.proofs.lemmas.Bool.{cases_Bool, cases_eq, ne_eqb, and_from, both_ways, lt-ltb, or_cases, or_left}
+use Rattle.std.proofs.lemmas.Bool.{or_parts, or_right, and_parts}
 use Rattle.sfnt_bytes.specs.Directory.{is_layout_slot, slot_tag, table_of}
 use Rattle.sfnt_bytes.specs.Lines.{first_of_lines, said_lines, when}
 use Rattle.sfnt_bytes.specs.Refusals.{is_duplicate, is_outside, tag_lines}
 use Rattle.sfnt_bytes.specs.declared.directory.DirError.TheVariants.{DuplicateTable, TableOutOfFile}
 use Rattle.sfnt_bytes.specs.declared.directory.TheConstants.{MAX_FILE}
 use Rattle.sfnt_bytes.specs.declared.tag.Tag.{Tag}
-use Rattle.sfnt_bytes.specs.declared.tag.TheConstants.{ALL_SLOTS, GVAR, HMTX, LAYOUT, LAYOUT_AND_VARIATIONS, POST, VMTX}
+use Rattle.sfnt_bytes.specs.declared.tag.TheConstants.{ALL_SLOTS, GVAR, HMTX, LAYOUT, LAYOUT_AND_VARIATIONS, POST}
+use Rattle.sfnt_bytes.specs.declared.tag.TheConstants.{VMTX}
 use Rattle.sfnt_bytes.proofs.LineLemmas.{find-none_at, first_of_lines-none_at, option_map-none}
 use Rattle.sfnt_bytes.proofs.RefusalLemmas.{tags_inside, tags_single}
 use Rattle.codes.specs.CharacterMap.{restricted}
-use Rattle.codes.specs.declared.runs.Run.{Run}
 use Rattle.codes.proofs.MapLemmas.{restricted-restricted}
 use Rattle.font_file.specs.Font.{font_fault}
 use Rattle.font_file.specs.declared.font_error.FontError.TheVariants.{BadVariations, Directory}
@@ -29,57 +29,54 @@ use Rattle.font_variations.proofs.LawLemmas.{made_read, parts_fit}
 use Rattle.font_theory.specs.Bytes.{padded}
 use Rattle.font_theory.specs.Content.{Content, Font, IsFont, Wanted, content, everything, glyph_count}
 use Rattle.font_theory.specs.Content.{is_bad_variations_in, is_kept, is_made, is_never_copied, is_never_in_layout}
-use Rattle.font_theory.specs.Content.{metric_count, of_codes, plain_font, read_back, wanted_within}
+use Rattle.font_theory.specs.Content.{metric_count, of_codes, plain_font, read_back, wanted_within, table_in_slot}
 use Rattle.font_theory.specs.Cut.{IsCurrent, Writes, cut, our_format}
 use Rattle.font_theory.specs.Cut.Arises.{of_file}
 use Rattle.font_theory.specs.File.{Writing, current_writing, file, glyf_bytes, groups_of_content, outlines_of}
-use Rattle.font_theory.specs.File.{padded_length, size_of}
+use Rattle.font_theory.specs.File.{padded_length, size_of, cmap_of_content, cmap_with_sequences}
 use Rattle.font_theory.specs.Kinds.{AreSettings, HasNothingVarying, Settings, by_metrics, by_variations, fault_by}
-use Rattle.font_theory.specs.Kinds.{font_by}
-use Rattle.font_theory.specs.Kinds.{format_by, layout_settings, lean_settings, lines_by, read_by, reduced, tables_by}
-use Rattle.font_theory.specs.Kinds.{has_record, there_by, variable_settings, without_layout}
+use Rattle.font_theory.specs.Kinds.{fault_of, font_by, font_of, settings, with_sequences, format_by, layout_settings}
+use Rattle.font_theory.specs.Kinds.{lean_settings, lines_by, read_by, reduced, tables_by, has_record, there_by}
+use Rattle.font_theory.specs.Kinds.{variable_settings, without_layout, table_in_file}
 use Rattle.font_theory.specs.Kinds.Reading.{absent, as_it_is, unvarying}
-use Rattle.font_theory.specs.Parted.{cleared, gvar_with, metrics, nameless, pairs_of, thin_post}
+use Rattle.font_theory.specs.Parted.{cleared, gvar_with, metrics, nameless, pairs_of, sequences, thin_post, variations}
 use Rattle.font_theory.specs.Parting.{Partition, Tables, context, divided, frames, parts_of, undivided}
 use Rattle.font_theory.specs.Parting.{undivided_content}
 use Rattle.font_theory.proofs.ContentLemmas.{IsClosed-content, IsFont-read_back, content-path, content-same}
 use Rattle.font_theory.proofs.ContentLemmas.{seeds-less, content-kept}
-use Rattle.font_theory.proofs.FontLemmas.{size-accepted}
+use Rattle.font_theory.proofs.FontLemmas.{size-accepted, never-made}
 use Rattle.font_theory.proofs.HeldLemmas.{component-nil}
-use Rattle.font_theory.proofs.WantedLemmas.{Reach-along, is_root-more, is_root-there, kept-there}
-use Rattle.font_glyph.specs.Reach.{IsComponentOf}
+use Rattle.font_theory.proofs.WantedLemmas.{Reach-along, is_root-more, is_root-there, kept-there, IsKept}
+use Rattle.font_theory.proofs.WantedLemmas.{is_kept-decides, is_root-same, is_root-seed, is_root-tells}
+use Rattle.font_glyph.specs.Reach.{IsComponentOf, reached}
 use Rattle.font_glyph.proofs.FoundLemmas.{any_decides}
-use Rattle.sfnt_bytes.specs.declared.tag.TheConstants.{ALL_SLOTS}
 use Rattle.std.proofs.lemmas.Bool.Decides.{same_from_decides, Decides-like}
-use Rattle.std.proofs.lemmas.Bool.{and_from, both_ways, lt-ltb, or_cases, or_left, or_parts, or_right}
 use Rattle.font_theory.proofs.DividedLemmas.{IsDivided-content, IsFont-divided, IsFont-whole, is_kept-divided}
-use Rattle.font_theory.proofs.DividedLemmas.{parts-whole}
-use Rattle.font_theory.proofs.DividedLemmas.{reduced-is}
+use Rattle.font_theory.proofs.DividedLemmas.{parts-whole, reduced-is, IsClosed-whole_content}
 use Rattle.font_theory.proofs.EntryLemmas.{length-cleared}
-use Rattle.font_theory.proofs.FontLemmas.{never-made}
 use Rattle.font_theory.proofs.KindFileLemmas.{font_of-by}
 use Rattle.font_theory.proofs.KindJoinLemmas.{parts_of-slot}
-use Rattle.font_theory.proofs.KindLemmas.{AreSettings-lean, AreSettings-variable, DividesAs}
-use Rattle.font_theory.proofs.KindLemmas.{file-same, lean_fault-is, tables_by-plain}
-use Rattle.font_theory.proofs.LinkLemmas.{is_bad_variations_in-none, never-layout}
-use Rattle.font_theory.proofs.LinkLemmas.{slot-varies}
+use Rattle.font_theory.specs.declared.kinds.Kind.TheVariants.{Variable}
+use Rattle.font_theory.specs.declared.kinds.TheConstants.{SEQUENCES}
+use Rattle.font_theory.proofs.KindLemmas.{AreSettings-layout, AreSettings-lean, AreSettings-variable, DividesAs}
+use Rattle.font_theory.proofs.KindLemmas.{settings-are, file-same, lean_fault-is, tables_by-plain}
+use Rattle.font_theory.proofs.SequenceSettingsLemmas.{AreSettings-sequences, read_there}
+use Rattle.font_theory.proofs.LinkLemmas.{is_bad_variations_in-none, never-layout, slot-varies, filled-never}
 use Rattle.font_theory.proofs.PaddedLemmas.{padded-padded}
 use Rattle.font_theory.proofs.PaddingLemmas.{length-padded-is}
 use Rattle.font_theory.proofs.PartLemmas.{by_slot, context-alike, frames-frames, frames-other, frames-undivided}
 use Rattle.font_theory.proofs.PartLemmas.{frames-wholes, glyph_count-alike, good-font, no_slot, parts_of-none}
-use Rattle.font_theory.proofs.PartLemmas.{parts_of-undivided, wholes-other, wholes-undivided}
+use Rattle.font_theory.proofs.PartLemmas.{parts_of-undivided, wholes-other, wholes-undivided, by_any_slot}
 use Rattle.font_theory.proofs.PartedLemmas.{IsPartition-metrics, IsPartition-variations, length-thin_post}
 use Rattle.font_theory.proofs.PartedLemmas.{other-metrics}
 use Rattle.font_theory.proofs.SettingsLemmas.{IsFont-by, font_fault-by, has_record-nothing, has_record-padded}
-use Rattle.font_theory.proofs.SettingsLemmas.{none_refused, reads-by, there-low}
-use Rattle.font_glyph.specs.Reach.{reached}
+use Rattle.font_theory.proofs.SettingsLemmas.{none_refused, reads-by, there-low, table_in_file-tag}
 use Rattle.font_glyph.specs.Reach.Reach.{seed, part}
-use Rattle.std.proofs.lemmas.Bool.{and_parts}
 use Rattle.font_theory.proofs.SizeLemmas.{length-file, length-said_lines-total, one_of, sum-map, total}
-use Rattle.font_theory.proofs.WantedLemmas.{IsKept, is_kept-decides, is_root-same, is_root-seed, is_root-tells}
 use Rattle.font_theory.proofs.WordLemmas.{count-reduced, hmtx-reduced, post-reduced, reduced-slot, vmtx-reduced}
 use Rattle.font_theory.proofs.WritableLemmas.{IsWritable-closed}
-use Rattle.font_theory.proofs.DividedLemmas.{IsClosed-whole_content}
+use Rattle.font_theory.specs.Difference.{PARTED}
+use Rattle.font_theory.proofs.SequencePartLemmas.{good_none}
 
 abbrev plain : Tables → Tables
 plain c slot = cond (is_made slot) None (c slot)
@@ -91,7 +88,7 @@ IsFont-without F ok = record {
   mapped_below = ok.mapped_below;
   mapped_codes = ok.mapped_codes;
   records = ok.records;
-  slots = λ slot never. rw (never-made slot never) refl;
+  slots = λ slot never. rw (never-made slot (filled-never slot never)) refl;
   unparted = λ _ _ _. refl;
   there_below = λ g h. cc;
   head_form = ok.head_form;
@@ -100,6 +97,7 @@ IsFont-without F ok = record {
   hhea = ok.hhea;
   hmtx = ok.hmtx;
   variations = is_bad_variations_in-none (plain F.copied) refl;
+  sequences = good_none (glyph_count (plain F.copied));
 }
 
 -- what a lean cut sees of a font: the same, with the glyphs that are there to it
@@ -128,6 +126,7 @@ IsFont-leaned F ok = let w = IsFont-without F ok in record {
   hhea = w.hhea;
   hmtx = w.hmtx;
   variations = w.variations;
+  sequences = w.sequences;
 }
 
 -- frames and parts of a plain table do not depend on the others
@@ -220,9 +219,9 @@ module _ (s : Settings) (is : AreSettings s) (how : DividesAs s) where
 
   -- a plain table is not divided, or as a lean cut divides it
   plain_how : (slot : ℕ) → is_made slot ≡ false → (p slot ≡ undivided) ⊎ (p slot ≡ by_metrics slot)
-  plain_how = by_slot (λ slot. is_made slot ≡ false → (p slot ≡ undivided) ⊎ (p slot ≡ by_metrics slot))
-      (λ e. no_slot (sym e)) (λ _. how.hmtx) (λ _. how.post) (λ _. how.vmtx)
-      (λ slot d x y z _. inl (is.partition.others slot (rw (d, x, y, z) refl)))
+  plain_how = by_any_slot (λ slot. is_made slot ≡ false → (p slot ≡ undivided) ⊎ (p slot ≡ by_metrics slot))
+      (λ e. no_slot (sym e)) (λ _. how.hmtx) (λ _. how.post) (λ _. how.vmtx) (λ e. no_slot (sym e))
+      (λ slot d x y z w _. inl (is.partition.others slot (rw (d, x, y, z, w) refl)))
 
   module _ (F : Font) (ok : IsFont F) (A B : Wanted) (by : IsNumbered s B) where
     abbrev K : Content
@@ -238,7 +237,7 @@ module _ (s : Settings) (is : AreSettings s) (how : DividesAs s) where
     font_K = IsFont-read_back (divided p F) A okD
 
     font_S : IsFont (read_back S)
-    font_S = IsFont-whole p is.partition K font_K
+    font_S = IsFont-whole p is.partition K font_K (IsDivided-content p is.partition F A ok).fit
 
     around : context S.copied ≡ context F.copied
     around = context-alike (frames p F.copied) S.copied (wholes-other p is.partition (frames p F.copied) K.parts)
@@ -424,9 +423,9 @@ module _ (s : Settings) (is : AreSettings s) (own : (slot : ℕ) → is_made slo
   some_record g h = elim (or_cases (nat_lt 0 (length (F.outline g))) _ h) [
     | inl e ↦ or_left _ _ e
     | inr e ↦
-        let w = (any_decides (λ slot. nat_lt 0 (length (parts_of by_metrics (plain F.copied) slot g))) ALL_SLOTS).0 e in
+        let w = (any_decides (λ slot. nat_lt 0 (length (parts_of by_metrics (plain F.copied) slot g))) PARTED).0 e in
         or_right (nat_lt 0 (length (F.outline g))) _
-        ((any_decides (λ slot. nat_lt 0 (length (parts_of s.partition F.copied slot g))) ALL_SLOTS).1 (
+        ((any_decides (λ slot. nat_lt 0 (length (parts_of s.partition F.copied slot g))) PARTED).1 (
           w.0,
           w.1,
           some_part g w.0 w.2,
@@ -631,19 +630,19 @@ module _ (F : Font) (ok : IsFont F) (A : Wanted) where
   few_cleared : (k n : ℕ) (t : List ℕ) → length (cleared (is_kept F A) k n t) ≤ length t
   few_cleared k n t = let size = length-cleared (is_kept F A) k n t in omega arith
 
+  kept_whole : (slot : ℕ) → by_metrics slot ≡ undivided → R.copied slot ≡ F.copied slot
+  kept_whole slot e =
+      ap (λ (C : Content). C.copied slot) (sym (reduced-is by_metrics IsPartition-metrics F ok A))
+      ∙ wholes-undivided by_metrics (frames by_metrics F.copied) slot e (content (divided by_metrics F) A).parts
+      ∙ frames-undivided by_metrics F.copied slot e
+
   no_longer : (slot : ℕ) → IsNoLonger (R.copied slot) (F.copied slot)
   no_longer = by_slot (λ slot. IsNoLonger (R.copied slot) (F.copied slot))
-      (no_longer-self _ _ (whole_slot GVAR refl))
+      (no_longer-self _ _ (kept_whole GVAR refl))
       (shorter HMTX _ (few_cleared _ _) (hmtx-reduced F A))
       (shorter POST thin_post length-thin_post (post-reduced F A))
       (shorter VMTX _ (few_cleared _ _) (vmtx-reduced F A))
-      (λ slot d x y z. no_longer-self _ _ (whole_slot slot (other-metrics slot x y z)))
-    where
-      whole_slot : (slot : ℕ) → by_metrics slot ≡ undivided → R.copied slot ≡ F.copied slot
-      whole_slot slot e =
-          ap (λ (C : Content). C.copied slot) (sym (reduced-is by_metrics IsPartition-metrics F ok A))
-          ∙ wholes-undivided by_metrics (frames by_metrics F.copied) slot e (content (divided by_metrics F) A).parts
-          ∙ frames-undivided by_metrics F.copied slot e
+      (λ slot d x y z. no_longer-self _ _ (kept_whole slot (other-metrics slot x y z)))
 
   outlines-lean : outlines_of R ≡ outlines_of O
   unfolding outlines_of reduced
@@ -664,8 +663,10 @@ module _ (F : Font) (ok : IsFont F) (A : Wanted) where
       let count = count-all R.copied O.copied no_longer in
       let bytes = bytes-all R.copied O.copied no_longer in
       let glyphs = count-reduced by_metrics IsPartition-metrics F ok A in
-      let groups = ap (λ (l : List Run). length l) groups-lean in
-      let front = ap (λ (l : List Run). length (writing.front (length l))) groups-lean in
+      let table : table_in_slot R.copied SEQUENCES ≡ table_in_slot O.copied SEQUENCES =
+      ap (λ (o : Option (List ℕ)). unwrap_or o []) (kept_whole SEQUENCES refl) in
+      let cmap : length (padded (cmap_of_content writing R)) ≡ length (padded (cmap_of_content writing O)) =
+      λ i. length (padded (cmap_with_sequences writing (groups-lean i) (table i))) in
       let head = ap (λ (l : List ℕ). length (padded l)) head-lean in
       let glyf = ap (λ (l : List (List ℕ)). length (padded (glyf_bytes writing l))) outlines-lean in
       omega arith
@@ -676,7 +677,8 @@ module _ (F : Font) (ok : IsFont F) (A : Wanted) where
   length-lean writing =
       let S : Content = undivided_content by_metrics (content (divided by_metrics F) A) in
       let closed = IsClosed-whole_content by_metrics IsPartition-metrics (content (divided by_metrics F) A)
-      (IsClosed-content (divided by_metrics F) A (IsFont-divided by_metrics IsPartition-metrics F ok)) in
+      (IsClosed-content (divided by_metrics F) A (IsFont-divided by_metrics IsPartition-metrics F ok))
+      (IsDivided-content by_metrics IsPartition-metrics F A ok).fit in
       let same = ap (size_of writing) (reduced-is by_metrics IsPartition-metrics F ok A) in
       let s = length-file writing S (IsWritable-closed S closed) in
       let o = length-file writing O (IsWritable-closed O (IsClosed-content F A ok)) in
@@ -695,6 +697,18 @@ length-lean_cut X codes accepted =
 
 -- a file in which nothing varies is the same to both readers
 module _ (X : List ℕ) (still : HasNothingVarying X) where
+  abbrev layout : Settings
+  layout = with_sequences layout_settings
+
+  abbrev variable : Settings
+  variable = with_sequences variable_settings
+
+  abbrev layout_is : AreSettings layout
+  layout_is = AreSettings-sequences layout_settings AreSettings-layout
+
+  abbrev variable_is : AreSettings variable
+  variable_is = AreSettings-sequences variable_settings AreSettings-variable
+
   read_here : (slot : ℕ) → is_never_copied slot ≡ false
       → read_by (cond (is_never_in_layout slot) absent (cond (is_layout_slot slot) unvarying as_it_is)) slot
       (table_of X (slot_tag slot)) ≡ table_of X (slot_tag slot)
@@ -714,46 +728,66 @@ module _ (X : List ℕ) (still : HasNothingVarying X) where
             ]
       ]
 
-  same_slot : (slot : ℕ) → tables_by layout_settings X slot ≡ tables_by variable_settings X slot
+  tagged_slot : (slot : ℕ) → tables_by layout_settings X slot ≡ tables_by variable_settings X slot
   unfolding layout_settings variable_settings
-  same_slot slot =
+  tagged_slot slot =
       elim (cases_Bool (is_never_copied slot)) [
         | inl t ↦
             ap (λ b. read_by (cond b absent (cond (is_layout_slot slot) unvarying as_it_is)) slot
-            (table_of X (slot_tag slot))) (never-layout slot t)
-            ∙ sym (ap (λ b. read_by (cond b absent as_it_is) slot (table_of X (slot_tag slot))) t)
-        | inr f ↦ read_here slot f ∙ sym (ap (λ b. read_by (cond b absent as_it_is) slot (table_of X (slot_tag
-            slot))) f)
+            (table_in_file X slot)) (never-layout slot t)
+            ∙ sym (ap (λ b. read_by (cond b absent as_it_is) slot (table_in_file X slot)) t)
+        | inr f ↦
+            let here = table_in_file-tag X slot (λ e. both_ways _ f (ap is_never_copied e)) in
+            ap (read_by (layout_settings.reading slot) slot) here ∙ read_here slot f ∙ sym here
+            ∙ sym (ap (λ b. read_by (cond b absent as_it_is) slot (table_in_file X slot)) f)
       ]
 
-  no_gvar : tables_by variable_settings X GVAR ≡ None
+  same_slot : (slot : ℕ) → tables_by layout X slot ≡ tables_by variable X slot
+  same_slot slot = elim (cases_eq slot SEQUENCES) [
+    | inl e ↦ subst (λ (k : ℕ). tables_by layout X k ≡ tables_by variable X k) (sym e) refl
+    | inr other ↦
+        ap (λ r. read_by r slot (table_in_file X slot)) (read_there layout_settings AreSettings-layout slot other)
+        ∙ tagged_slot slot
+        ∙ sym (ap (λ r. read_by r slot (table_in_file X slot))
+        (read_there variable_settings AreSettings-variable slot other))
+  ]
+
+  no_gvar : tables_by variable X GVAR ≡ None
   unfolding variable_settings
   no_gvar = still.absent GVAR (omega arith) (omega arith)
 
+  divided_same : (slot : ℕ) → slot ≢ GVAR → layout.partition slot ≡ variable.partition slot
+  unfolding layout_settings variable_settings
+  divided_same slot other = let f = ne_eqb slot GVAR other in
+      sym (ap (λ b. cond (nat_eq slot SEQUENCES) sequences (cond b variations (by_metrics slot))) f)
+
   -- data that are not there are no parts
   part_same : (c : Tables) → c GVAR ≡ None → (slot g : ℕ)
-      → parts_of by_metrics c slot g ≡ parts_of by_variations c slot g
+      → parts_of layout.partition c slot g ≡ parts_of variable.partition c slot g
   part_same c none slot g = elim (cases_eq slot GVAR) [
     | inl e ↦ let gone : c slot ≡ None = ap c e ∙ none in
-        parts_of-none by_metrics c slot g gone ∙ sym (parts_of-none by_variations c slot g gone)
-    | inr other ↦ let f = ne_eqb slot GVAR other in parts_of-slot by_metrics by_variations slot (rw f refl) c g
+        parts_of-none layout.partition c slot g gone ∙ sym (parts_of-none variable.partition c slot g gone)
+    | inr other ↦ parts_of-slot layout.partition variable.partition slot (divided_same slot other) c g
   ]
 
-  seen : (c : Tables) → c GVAR ≡ None → (g : ℕ) → there_by layout_settings c (plain_font X).outline g
-      ≡ there_by variable_settings c (plain_font X).outline g
-  unfolding there_by layout_settings variable_settings
-  seen c none g = λ i. nat_lt g (glyph_count c) && has_record ((plain_font X).outline g) (λ slot. part_same c none slot
-      g i)
+  numbered_both : layout.by_number ≡ variable.by_number
+  unfolding layout_settings variable_settings
+  numbered_both = refl
 
-  same_there : (g : ℕ) → there_by layout_settings (tables_by layout_settings X) (plain_font X).outline g
-      ≡ there_by variable_settings (tables_by variable_settings X) (plain_font X).outline g
+  seen : (c : Tables) → c GVAR ≡ None → (g : ℕ) → there_by layout c (plain_font X).outline g
+      ≡ there_by variable c (plain_font X).outline g
   unfolding there_by
-  same_there g =
-      let tables : tables_by layout_settings X ≡ tables_by variable_settings X = fun_ext same_slot in
-      ap (λ (c : Tables). there_by layout_settings c (plain_font X).outline g) tables
-      ∙ seen (tables_by variable_settings X) no_gvar g
+  seen c none g = λ i. numbered_both i
+      && (nat_lt g (glyph_count c) && has_record ((plain_font X).outline g) (λ slot. part_same c none slot g i))
 
-  same_font : font_by layout_settings X ≡ font_by variable_settings X
+  same_there : (g : ℕ) → there_by layout (tables_by layout X) (plain_font X).outline g
+      ≡ there_by variable (tables_by variable X) (plain_font X).outline g
+  same_there g =
+      let tables : tables_by layout X ≡ tables_by variable X = fun_ext same_slot in
+      ap (λ (c : Tables). there_by layout c (plain_font X).outline g) tables
+      ∙ seen (tables_by variable X) no_gvar g
+
+  same_font : font_by layout X ≡ font_by variable X
   same_font = λ i. record {
     copied = λ slot. same_slot slot i;
     head = (plain_font X).head;
@@ -763,32 +797,33 @@ module _ (X : List ℕ) (still : HasNothingVarying X) where
     there = λ g. same_there g i;
   }
 
-  module _ (accepted : fault_by variable_settings X ≡ None) where
-    ok : IsFont (font_by variable_settings X)
-    ok = IsFont-by variable_settings AreSettings-variable X accepted
+  module _ (accepted : fault_by variable X ≡ None) where
+    ok : IsFont (font_by variable X)
+    ok = IsFont-by variable variable_is X accepted
 
     reduced_slot : (C : Content) → C.copied GVAR ≡ None → (slot : ℕ)
-        → (reduced by_variations C).copied slot ≡ (reduced by_metrics C).copied slot
+        → (reduced variable.partition C).copied slot ≡ (reduced layout.partition C).copied slot
     unfolding reduced
     reduced_slot C none slot = elim (cases_eq slot GVAR) [
       | inl e ↦ let gone : C.copied slot ≡ None = ap C.copied e ∙ none in
           ap (option_map _) gone ∙ sym (ap (option_map _) gone)
-      | inr other ↦ let f = ne_eqb slot GVAR other in reduced-slot by_variations by_metrics C slot (rw f refl)
+      | inr other ↦ reduced-slot variable.partition layout.partition C slot (sym (divided_same slot other))
     ]
 
-    reduced_same : (C : Content) → C.copied GVAR ≡ None → reduced by_variations C ≡ reduced by_metrics C
+    reduced_same : (C : Content) → C.copied GVAR ≡ None → reduced variable.partition C ≡ reduced layout.partition C
     unfolding reduced
     reduced_same C none = content-path (fun_ext (reduced_slot C none)) refl refl refl refl refl
 
     -- and has the same cuts
-    pub cut-unvarying : (A : Wanted) → cut (format_by variable_settings) X A ≡ cut (format_by layout_settings) X A
-    unfolding format_by layout_settings variable_settings
+    pub cut-unvarying : (A : Wanted) → cut (format_by variable) X A ≡ cut (format_by layout) X A
+    unfolding format_by
     cut-unvarying A =
-        let F : Font = font_by variable_settings X in
+        let F : Font = font_by variable X in
         ap (file current_writing)
-        (reduced-is by_variations IsPartition-variations F ok A ∙ reduced_same (content F A) no_gvar
-        ∙ sym (reduced-is by_metrics IsPartition-metrics F ok A)
-        ∙ sym (ap (λ (G : Font). undivided_content by_metrics (content (divided by_metrics G) A)) same_font))
+        (reduced-is variable.partition variable_is.partition F ok A ∙ reduced_same (content F A) no_gvar
+        ∙ sym (reduced-is layout.partition layout_is.partition F ok A)
+        ∙ sym (ap (λ (G : Font). undivided_content layout.partition
+        (content (divided layout.partition G) A)) same_font))
 
     -- it is accepted for layout cuts
     abbrev tags : List Tag
@@ -796,8 +831,8 @@ module _ (X : List ℕ) (still : HasNothingVarying X) where
 
     fine_tags : first_of_lines (tag_lines tags X) ≡ None
     unfolding variable_settings
-    fine_tags = option_map-none Directory _ (first_of_lines-none_at (lines_by variable_settings X) 0
-        (none_refused variable_settings AreSettings-variable X accepted))
+    fine_tags = option_map-none Directory _ (first_of_lines-none_at (lines_by variable X) 0
+        (none_refused variable variable_is X accepted))
 
     none_among : (p : Tag → Bool) → find p tags ≡ None → find p LAYOUT ≡ None
     none_among p none =
@@ -810,13 +845,13 @@ module _ (X : List ℕ) (still : HasNothingVarying X) where
         let kern = at 12 (omega arith) in
         rw (base, gdef, gpos, gsub, kern) refl
 
-    pub fault-unvarying : fault_by layout_settings X ≡ None
+    pub fault-unvarying : fault_by layout X ≡ None
     unfolding fault_by layout_settings
     fault-unvarying =
         let twice = none_among (is_duplicate X) (tags_single tags X fine_tags) in
         let outside = none_among (is_outside X) (tags_inside tags X fine_tags) in
         let gvar = ap is_bad_variations_in (fun_ext same_slot) ∙ ok.variations in
-        let fine = font_fault-by variable_settings AreSettings-variable X accepted in
+        let fine = font_fault-by variable variable_is X accepted in
         λ i. option_or (fine i)
         (first_of_lines
         (option_map Directory (first_of_lines
@@ -824,15 +859,16 @@ module _ (X : List ℕ) (still : HasNothingVarying X) where
         ∷ when (gvar i) BadVariations ∷ []))
 
 -- an accepted `gvar` without data is its first 8 bytes and its shared tuples
-fit : (X gvar : List ℕ) → fault_by variable_settings X ≡ None → table_of X (slot_tag GVAR) ≡ Some gvar
+fit : (X gvar : List ℕ) → fault_of Variable X ≡ None → table_of X (slot_tag GVAR) ≡ Some gvar
     → IsForGvar (front_of gvar) (shared_tuples_of gvar)
 unfolding variable_settings
 fit X gvar accepted e =
-    parts_fit gvar _ _ (good-font (font_by variable_settings X) (IsFont-by variable_settings AreSettings-variable X
-    accepted) GVAR gvar e)
+    parts_fit gvar _ _ (good-font (font_of Variable X)
+    (IsFont-by (settings Variable) (settings-are Variable) X accepted)
+    GVAR gvar e)
 
-pub gvar-empty : (X Y gvar other : List ℕ) (n : ℕ) → fault_by variable_settings X ≡ None
-    → fault_by variable_settings Y ≡ None → table_of X (slot_tag GVAR) ≡ Some gvar
+pub gvar-empty : (X Y gvar other : List ℕ) (n : ℕ) → fault_of Variable X ≡ None → fault_of Variable Y ≡ None
+    → table_of X (slot_tag GVAR) ≡ Some gvar
     → table_of Y (slot_tag GVAR) ≡ Some other
     → (gvar_with (λ _. []) n gvar ≡ gvar_with (λ _. []) n other → (front_of gvar ≡ front_of other)
     × (shared_tuples_of gvar ≡ shared_tuples_of other))

@@ -1,8 +1,8 @@
 -- The settings of each kind, and full cuts as those of a plain reader.
-use Rattle.std.proofs.Common.{◌≡◌, ℕ, Bool, true, false, cond, ◌&&◌, nat_eq, nat_lt, inl, inr, List, [], ◌⊎◌, refl}
-use Rattle.std.proofs.Common.{◌∙◌, sym, ap, subst, ◌∷◌, Option, Some, None, ◌≢◌}
+use Rattle.std.proofs.Common.{◌≡◌, ℕ, Bool, true, false, cond, ◌&&◌, nat_eq, nat_lt, inl, inr, List, [], ◌⊎◌, refl, ◌∙◌}
+use Rattle.std.proofs.Common.{sym, ap, subst, ◌∷◌, not, Option, Some, None, ◌≢◌}
 use Rattle.std.specs.Option.{option_map, option_or}
-use Rattle.std.proofs.lemmas.Bool.{both_ways, cases_Bool, false_from_ne_true, leb-false, ne_eqb, or_parts}
+use Rattle.std.proofs.lemmas.Bool.{both_ways, cases_Bool, cases_eq, false_from_ne_true, leb-false, ne_eqb, or_parts}
 use Rattle.sfnt_bytes.specs.Directory.{is_layout_slot, slot_tag, table_of}
 use Rattle.sfnt_bytes.specs.Lines.{first_of_lines, when}
 use Rattle.sfnt_bytes.specs.Refusals.{tag_lines}
@@ -12,36 +12,42 @@ use Rattle.font_file.specs.Font.{font_fault}
 use Rattle.font_file.specs.declared.font_error.FontError.{FontError}
 use Rattle.font_file.specs.declared.font_error.FontError.TheVariants.{BadVariations, Directory}
 use Rattle.font_theory.specs.Content.{Content, content, everything, glyph_count, is_made, is_never_copied, plain_font}
-use Rattle.font_theory.specs.Content.{read_back}
-use Rattle.font_theory.specs.Cut.{IsCut, our_format}
+use Rattle.font_theory.specs.Content.{is_never_filled, read_back}
+use Rattle.font_theory.specs.Cut.{Arises, IsCut, our_format}
 use Rattle.font_theory.specs.File.{Writing, adjustment_in, bytes_in_slot, current_writing, file, groups_of_content}
 use Rattle.font_theory.specs.File.{outlines_of, writing_of}
 use Rattle.font_theory.specs.Kinds.{AreSettings, IsKind, Settings, all_undivided, by_metrics, divides_tables, fault_by}
+use Rattle.font_theory.specs.Kinds.{by_variations, keeps_sequences}
 use Rattle.font_theory.specs.Kinds.{fault_of, font_by, font_of, format_by, format_of, full_settings, has_record}
 use Rattle.font_theory.specs.Kinds.{layout_settings, lean_settings, partition_of, plain_reading, read_by, settings}
-use Rattle.font_theory.specs.Kinds.{spelled_by, tables_by, there_by, variable_settings}
+use Rattle.font_theory.specs.Kinds.{sequences_of_file, spelled_by, table_in_file, tables_by, tables_of, there_by}
+use Rattle.font_theory.specs.Kinds.{variable_settings, with_sequences}
 use Rattle.font_theory.specs.Kinds.Reading.{absent, as_it_is, unvarying}
-use Rattle.font_theory.specs.Parted.{metrics, nameless, variations}
-use Rattle.font_theory.specs.Parting.{AlwaysFits, divided, parts_of, undivided, undivided_content}
+use Rattle.font_theory.specs.Parted.{metrics, nameless, sequences, variations}
+use Rattle.font_theory.specs.Parting.{AlwaysFits, Partition, Tables, divided, fits_at, parts_of, undivided}
+use Rattle.font_theory.specs.Parting.{undivided_content}
 use Rattle.font_theory.specs.declared.Profile.TheVariants.{First}
 use Rattle.font_theory.specs.declared.kinds.Kind.{Kind}
+use Rattle.font_theory.specs.declared.kinds.TheConstants.{SEQUENCES}
 use Rattle.font_theory.specs.declared.kinds.Kind.TheVariants.{Full, Layout, Lean, Variable}
 use Rattle.font_theory.proofs.ContentLemmas.{parts-path}
 use Rattle.font_theory.proofs.FontLemmas.{never-made}
-use Rattle.font_theory.proofs.LinkLemmas.{is_bad_variations_in-none, layout-made, may-layout}
+use Rattle.font_theory.proofs.LinkLemmas.{is_bad_variations_in-none, layout-made, may-layout, filled-never}
 use Rattle.font_theory.proofs.LinkLemmas.{never-layout}
 use Rattle.font_theory.proofs.PartLemmas.{by_slot, frames-undivided, parts_of-undivided, wholes-undivided}
-use Rattle.font_theory.proofs.DividedLemmas.{misfit-always}
+use Rattle.font_theory.proofs.DividedLemmas.{misfit-always, misfit-sequences}
 use Rattle.font_theory.proofs.PartedLemmas.{AlwaysFits-metrics, AlwaysFits-undivided, AlwaysFits-variations}
 use Rattle.font_theory.proofs.PartedLemmas.{IsPartition-metrics, IsPartition-undivided, IsPartition-variations}
 use Rattle.font_theory.proofs.PartedLemmas.{other-metrics}
-use Rattle.font_theory.proofs.SettingsLemmas.{IsKind-by, read-cut, means-cut, tables_by-below}
+use Rattle.font_theory.proofs.SequenceSettingsLemmas.{AreSettings-sequences}
+use Rattle.font_theory.proofs.SettingsLemmas.{AreRead-by, IsKind-by, read-cut, means-cut, table_in_file-tag}
+use Rattle.font_theory.proofs.SettingsLemmas.{tables_by-below}
 
 plain_read : (slot : ℕ) → is_made slot ≡ false → plain_reading slot ≡ as_it_is
 plain_read slot f = rw f refl
 
-plain_never : (slot : ℕ) → is_never_copied slot ≡ true → plain_reading slot ≡ absent
-plain_never slot never = rw (never-made slot never) refl
+plain_never : (slot : ℕ) → is_never_filled slot ≡ true → plain_reading slot ≡ absent
+plain_never slot never = rw (never-made slot (filled-never slot never)) refl
 
 plain_whole : {X : Type 0} (slot : ℕ) → plain_reading slot ≡ unvarying → X
 plain_whole slot e = go (is_made slot) e
@@ -56,6 +62,7 @@ AreSettings-full = record {
   plain = plain_read;
   never = plain_never;
   whole = λ slot e. refl;
+  sequences = inl refl;
   partition = IsPartition-undivided;
 }
 
@@ -65,6 +72,7 @@ AreSettings-lean = record {
   plain = plain_read;
   never = plain_never;
   whole = λ slot e. plain_whole slot e;
+  sequences = inl refl;
   partition = IsPartition-metrics;
 }
 
@@ -80,9 +88,10 @@ unfolding layout_settings
 AreSettings-layout = record {
   plain = layout_plain;
   never = λ slot never. ap (λ b. cond b absent (cond (is_layout_slot slot) unvarying as_it_is)) (never-layout slot
-      never);
+      (filled-never slot never));
   whole = by_slot (λ slot. layout_settings.reading slot ≡ unvarying → by_metrics slot ≡ undivided)
       (λ e. refl) (λ e. cc) (λ e. cc) (λ e. cc) (λ slot d a b c e. other-metrics slot a b c);
+  sequences = inl refl;
   partition = IsPartition-metrics;
 }
 
@@ -91,8 +100,9 @@ unfolding variable_settings
 AreSettings-variable = record {
   plain = λ slot f. rw (false_from_ne_true (is_never_copied slot)
       (λ t. both_ways (is_made slot) f (never-made slot t))) refl;
-  never = λ slot never. rw never refl;
+  never = λ slot never. rw (filled-never slot never) refl;
   whole = λ slot e. go (is_never_copied slot) e;
+  sequences = inl refl;
   partition = IsPartition-variations;
 }
   where
@@ -103,15 +113,15 @@ AreSettings-variable = record {
 pub settings-are : (kind : Kind) → AreSettings (settings kind)
 settings-are Full = AreSettings-full
 settings-are Lean = AreSettings-lean
-settings-are Layout = AreSettings-layout
-settings-are Variable = AreSettings-variable
+settings-are Layout = AreSettings-sequences layout_settings AreSettings-layout
+settings-are Variable = AreSettings-sequences variable_settings AreSettings-variable
 
 -- what a plain reader refuses and sees
 module _ (s : Settings) (is : AreSettings s) (plain : (slot : ℕ) → s.reading slot ≡ plain_reading slot) where
   pub tables_by-plain : (X : List ℕ) (slot : ℕ) → tables_by s X slot ≡ (plain_font X).copied slot
   tables_by-plain X slot =
       elim (cases_Bool (is_made slot)) [
-        | inl t ↦ ap (λ r. read_by r slot (table_of X (slot_tag slot))) (plain slot) ∙ rw t refl
+        | inl t ↦ ap (λ r. read_by r slot (table_in_file X slot)) (plain slot) ∙ rw t refl
         | inr f ↦ tables_by-below s is X slot (leb-false SLOTS slot (or_parts _ _ f).1)
       ]
 
@@ -225,9 +235,11 @@ pub numbered : (kind : Kind) → (settings kind).by_number ≡ true → (slot : 
 unfolding full_settings lean_settings layout_settings variable_settings
 numbered Full h slot f = cc
 numbered Lean h slot f = refl
-numbered Layout h slot f = refl
-numbered Variable h slot f = let no : nat_eq slot GVAR ≡ false = ne_eqb slot GVAR (λ e. let t : is_made GVAR ≡ false =
-    subst (λ (x : ℕ). is_made x ≡ false) e f in cc) in rw no refl
+numbered Layout h slot f = let past = ne_eqb slot SEQUENCES (λ e. both_ways _ f (ap is_made e)) in rw past refl
+numbered Variable h slot f =
+    let past = ne_eqb slot SEQUENCES (λ e. both_ways _ f (ap is_made e)) in
+    let other = ne_eqb slot GVAR (λ e. both_ways _ f (ap is_made e)) in
+    rw (past, other) refl
 
 -- how each kind divides tables
 pub record DividesAs (s : Settings) : Type 0 where
@@ -235,22 +247,23 @@ pub record DividesAs (s : Settings) : Type 0 where
   pub hmtx : (s.partition HMTX ≡ undivided) ⊎ (s.partition HMTX ≡ metrics HHEA)
   pub post : (s.partition POST ≡ undivided) ⊎ (s.partition POST ≡ nameless)
   pub vmtx : (s.partition VMTX ≡ undivided) ⊎ (s.partition VMTX ≡ metrics VHEA)
+  pub sequences : (s.partition SEQUENCES ≡ sequences) ⊎ (s.reading SEQUENCES ≡ absent)
 
 full_divides : DividesAs full_settings
 unfolding full_settings
-full_divides = record { gvar = inr refl; hmtx = inl refl; post = inl refl; vmtx = inl refl }
+full_divides = record { gvar = inr refl; hmtx = inl refl; post = inl refl; vmtx = inl refl; sequences = inr refl }
 
 lean_divides : DividesAs lean_settings
 unfolding lean_settings
-lean_divides = record { gvar = inr refl; hmtx = inr refl; post = inr refl; vmtx = inr refl }
+lean_divides = record { gvar = inr refl; hmtx = inr refl; post = inr refl; vmtx = inr refl; sequences = inr refl }
 
-layout_divides : DividesAs layout_settings
+layout_divides : DividesAs (with_sequences layout_settings)
 unfolding layout_settings
-layout_divides = record { gvar = inr refl; hmtx = inr refl; post = inr refl; vmtx = inr refl }
+layout_divides = record { gvar = inr refl; hmtx = inr refl; post = inr refl; vmtx = inr refl; sequences = inl refl }
 
-variable_divides : DividesAs variable_settings
+variable_divides : DividesAs (with_sequences variable_settings)
 unfolding variable_settings
-variable_divides = record { gvar = inl refl; hmtx = inr refl; post = inr refl; vmtx = inr refl }
+variable_divides = record { gvar = inl refl; hmtx = inr refl; post = inr refl; vmtx = inr refl; sequences = inl refl }
 
 pub divides : (kind : Kind) → DividesAs (settings kind)
 divides Full = full_divides
@@ -266,25 +279,53 @@ undivided-kind Lean none slot = cc
 undivided-kind Layout none slot = cc
 undivided-kind Variable none slot = cc
 
-pub divided-kind : (kind : Kind) → divides_tables kind ≡ true → (slot : ℕ) → slot ≢ GVAR
+pub divided-kind : (kind : Kind) → divides_tables kind ≡ true → (slot : ℕ) → slot ≢ GVAR → slot ≢ SEQUENCES
     → partition_of kind slot ≡ by_metrics slot
 unfolding lean_settings layout_settings variable_settings
-divided-kind Full some slot other = cc
-divided-kind Lean some slot other = refl
-divided-kind Layout some slot other = refl
-divided-kind Variable some slot other = let f = ne_eqb slot GVAR other in rw f refl
+divided-kind Full some slot other tagged = cc
+divided-kind Lean some slot other tagged = refl
+divided-kind Layout some slot other tagged = let past = ne_eqb slot SEQUENCES tagged in rw past refl
+divided-kind Variable some slot other tagged =
+    let past = ne_eqb slot SEQUENCES tagged in
+    let f = ne_eqb slot GVAR other in
+    rw (past, f) refl
 
--- parts have room in each table of each kind
-pub AlwaysFits-kind : (kind : Kind) → AlwaysFits (partition_of kind)
+-- parts have room in each table of each kind, but for sequences
+fits-sequences : (p : Partition) → AlwaysFits p → (slot : ℕ) → slot ≢ SEQUENCES → (c : Tables) (frame : List ℕ)
+    (parts : ℕ → List ℕ) → (cond (nat_eq slot SEQUENCES) sequences (p slot)).fits c frame parts ≡ true
+fits-sequences p always slot other c frame parts =
+    ap (λ b. (cond b sequences (p slot)).fits c frame parts) (ne_eqb slot SEQUENCES other) ∙ always slot c frame parts
+
+pub fits-tagged : (kind : Kind) (slot : ℕ) → slot ≢ SEQUENCES → (c : Tables) (frame : List ℕ) (parts : ℕ → List ℕ)
+    → (partition_of kind slot).fits c frame parts ≡ true
 unfolding full_settings lean_settings layout_settings variable_settings
-AlwaysFits-kind Full = AlwaysFits-undivided
-AlwaysFits-kind Lean = AlwaysFits-metrics
-AlwaysFits-kind Layout = AlwaysFits-metrics
-AlwaysFits-kind Variable = AlwaysFits-variations
+fits-tagged Full slot other = AlwaysFits-undivided slot
+fits-tagged Lean slot other = AlwaysFits-metrics slot
+fits-tagged Layout slot other = fits-sequences by_metrics AlwaysFits-metrics slot other
+fits-tagged Variable slot other = fits-sequences by_variations AlwaysFits-variations slot other
 
-pub misfit-kind : (kind : Kind) (K : Content) → (format_of kind).misfit K ≡ None
+pub AlwaysFits-kind : (kind : Kind) → keeps_sequences kind ≡ false → AlwaysFits (partition_of kind)
+unfolding full_settings lean_settings
+AlwaysFits-kind Full none = AlwaysFits-undivided
+AlwaysFits-kind Lean none = AlwaysFits-metrics
+AlwaysFits-kind Layout none = cc
+AlwaysFits-kind Variable none = cc
+
+pub misfit-kind : (kind : Kind) → keeps_sequences kind ≡ false → (K : Content) → (format_of kind).misfit K ≡ None
 unfolding format_by
-misfit-kind kind K = misfit-always (partition_of kind) (AlwaysFits-kind kind) K
+misfit-kind kind none K = misfit-always (partition_of kind) (AlwaysFits-kind kind none) K
+
+pub misfit-is : (kind : Kind) (K : Content)
+    → (format_of kind).misfit K ≡ when (not (fits_at (partition_of kind) K.copied K.parts SEQUENCES)) SEQUENCES
+unfolding format_by
+misfit-is kind K = misfit-sequences (partition_of kind) (fits-tagged kind) K
+
+-- a kind that keeps sequences reads them as they are
+pub sequences_read : (kind : Kind) → keeps_sequences kind ≡ true → (settings kind).reading SEQUENCES ≡ as_it_is
+sequences_read Full keeps = cc
+sequences_read Lean keeps = cc
+sequences_read Layout keeps = refl
+sequences_read Variable keeps = refl
 
 pub kind_is : (kind : Kind) → IsKind (format_of kind) (fault_of kind) (font_of kind) (spelled_by kind)
 kind_is kind = IsKind-by (settings kind) (settings-are kind)
@@ -294,3 +335,13 @@ pub read_whole : (kind : Kind) (X : List ℕ) → IsCut (format_of kind) X
     → font_of kind X ≡ read_back (content (font_of kind X) everything)
 read_whole kind X form = read-cut (settings kind) (settings-are kind) X form
     ∙ ap read_back (sym (means-cut (settings kind) (settings-are kind) X form))
+
+-- where no sequences are read, the tables are those of the tags
+pub tables_by-tags : (s : Settings) → s.reading SEQUENCES ≡ absent → (X : List ℕ) (slot : ℕ)
+    → tables_by s X slot ≡ read_by (s.reading slot) slot (table_of X (slot_tag slot))
+tables_by-tags s none X slot = elim (cases_eq slot SEQUENCES) [
+  | inl e ↦ subst (λ (k : ℕ). tables_by s X k ≡ read_by (s.reading k) k (table_of X (slot_tag k))) (sym e)
+      (ap (λ r. read_by r SEQUENCES (Some (sequences_of_file X))) none
+      ∙ sym (ap (λ r. read_by r SEQUENCES (table_of X (slot_tag SEQUENCES))) none))
+  | inr other ↦ ap (read_by (s.reading slot) slot) (table_in_file-tag X slot other)
+]

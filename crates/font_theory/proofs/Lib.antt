@@ -51,3 +51,12 @@ pub mod WantedLemmas
 pub mod WordLemmas
 pub mod WorkedLemmas
 pub mod WritableLemmas
+pub mod MergeLemmas
+pub mod OrderLemmas
+pub mod SequenceCmapLemmas
+pub mod SequenceEntryLemmas
+pub mod SequenceFontLemmas
+pub mod SequencePartLemmas
+pub mod SequenceTableLemmas
+pub mod SequenceSettingsLemmas
+pub mod UnsequencedLemmas

@@ -1,14 +1,15 @@
 -- What the theory asks of links: there are none without `GSUB`, and `GSUB` alone says what they are.
-use Rattle.std.proofs.Common.{◌≡◌, ℕ, ◌<◌, ◌≤◌, true, false, nat_le, nat_lt, inl, inr}
-use Rattle.std.proofs.Common.{List, refl, ap, arith, Option, Some, None, option_map}
-use Rattle.std.proofs.lemmas.Bool.{and_parts, both_ways, false_from_ne_true, le-leb, leb-true, lt-leb, ltb-true, ne_eqb}
-use Rattle.std.proofs.lemmas.Bool.{leb-false, or_cases, or_left, or_parts, or_right}
+use Rattle.std.proofs.Common.{◌≡◌, ◌≢◌, ℕ, ◌<◌, ◌≤◌, true, false, nat_le, nat_lt, inl, inr, List, refl, ap, arith}
+use Rattle.std.proofs.Common.{Option, Some, None, option_map}
+use Rattle.std.proofs.lemmas.Bool.{and_parts, both_ways, false_from_ne_true, le-leb, leb-true, lt-leb, lt-ltb, ltb-true}
+use Rattle.std.proofs.lemmas.Bool.{ne_eqb, leb-false, or_cases, or_left, or_parts, or_right}
 use Rattle.std.specs.Option.{option_map_or}
 use Rattle.sfnt_bytes.specs.Directory.{is_layout_slot}
 use Rattle.sfnt_bytes.specs.declared.tag.TheConstants.{ALL_SLOTS, FIRST_VARIATION, FVAR, GVAR}
 use Rattle.font_variations.specs.Gvar.{is_bad_variations}
-use Rattle.font_theory.specs.Content.{glyph_count, is_bad_variations_in, is_made}
-use Rattle.font_theory.specs.Content.{is_never_copied, is_never_in_layout}
+use Rattle.font_theory.specs.Content.{glyph_count, is_bad_variations_in, is_made, is_never_copied, is_never_filled}
+use Rattle.font_theory.specs.Content.{is_never_in_layout}
+use Rattle.font_theory.specs.declared.kinds.TheConstants.{SEQUENCES}
 use Rattle.font_layout.proofs.CleaningLemmas.{fixed-fixed}
 use Rattle.font_theory.specs.Links.{fixed}
 
@@ -41,6 +42,23 @@ layout-copied slot h =
     ne_eqb slot 6 (λ e. omega arith) in let e9 = ne_eqb slot 9 (λ e. omega arith) in
     let last : nat_le 21 slot ≡ false = lt-leb 21 slot to in
     rw (e1, e5, e6, e9) last
+
+-- what is always empty no cut copies
+pub filled-never : (slot : ℕ) → is_never_filled slot ≡ true → is_never_copied slot ≡ true
+filled-never slot h = elim (or_cases _ (nat_lt SEQUENCES slot) h) [
+  | inl one ↦ or_left _ (nat_le ALL_SLOTS slot) one
+  | inr past ↦
+      let far = ltb-true SEQUENCES slot past in or_right _ (nat_le ALL_SLOTS slot) (le-leb ALL_SLOTS slot (omega arith))
+]
+
+-- and what else no cut copies is the slot of sequences
+pub never-filled : (slot : ℕ) → is_never_copied slot ≡ true → slot ≢ SEQUENCES → is_never_filled slot ≡ true
+never-filled slot h other = elim (or_cases _ (nat_le ALL_SLOTS slot) h) [
+  | inl one ↦ or_left _ (nat_lt SEQUENCES slot) one
+  | inr past ↦
+      let far = leb-true ALL_SLOTS slot past in
+      or_right _ (nat_lt SEQUENCES slot) (lt-ltb SEQUENCES slot (omega (arith, far, other)))
+]
 
 -- what no cut copies, a layout cut does not copy, and what that does not copy a plain one does not
 pub never-layout : (slot : ℕ) → is_never_copied slot ≡ true → is_never_in_layout slot ≡ true

@@ -1,6 +1,6 @@
 -- Divided tables, and the fonts and contents that have them.
-use Rattle.std.proofs.Common.{◌≡◌, ℕ, ◌<◌, ◌≤◌, Bool, true, false, cond, ◌&&◌, nat_eq, nat_lt, inl, inr, List, []}
-use Rattle.std.proofs.Common.{refl, sym, ◌∙◌, ap, subst, Option, Some, None, unwrap_or}
+use Rattle.std.proofs.Common.{◌≡◌, ℕ, ◌<◌, ◌≤◌, Bool, true, false, cond, ◌&&◌, nat_eq, nat_lt, inl, inr, List, [], refl}
+use Rattle.std.proofs.Common.{sym, ◌∙◌, ap, subst, Option, Some, None, unwrap_or}
 use Rattle.std.specs.Option.{option_map, option_map_or}
 use Rattle.std.proofs.Math.Path.{fun_ext}
 use Rattle.std.proofs.lemmas.Bool.{cases_eq, le-ltb, lt-ltb, ne_eqb}
@@ -12,10 +12,12 @@ use Rattle.font_variations.specs.Gvar.{is_bad_variations}
 use Rattle.font_glyph.specs.Reach.{reached}
 use Rattle.font_glyph.specs.Record.{IsRecord}
 use Rattle.font_theory.specs.Bytes.{cut_head}
-use Rattle.font_theory.specs.Content.{Font, IsFont, Wanted, glyph_count, is_bad_variations_in, is_kept}
-use Rattle.font_theory.specs.Content.{is_never_copied, metric_count, table_in_slot}
+use Rattle.font_theory.specs.Content.{Font, IsFont, Wanted, glyph_count, is_bad_variations_in, is_kept, is_never_filled}
+use Rattle.font_theory.specs.Content.{metric_count, table_in_slot}
 use Rattle.font_theory.specs.Parting.{IsPartition, Parting, Partition, Tables, context, frames, is_bad_at, may_divide}
 use Rattle.font_theory.specs.Parting.{fits_at, parts_of, undivided, wholes}
+use Rattle.font_theory.specs.SequenceTable.{is_bad_sequences}
+use Rattle.font_theory.specs.declared.kinds.TheConstants.{SEQUENCES}
 use Rattle.font_theory.proofs.ContentLemmas.{nothing_either}
 use Rattle.font_theory.proofs.WantedLemmas.{is_root-same}
 
@@ -40,10 +42,20 @@ by_slot P gvar hmtx post vmtx other slot =
 pub no_slot : {X : Type 0} → false ≡ true → X
 no_slot e = cc
 
--- what no cut copies is not divided
-pub never-divided : (slot : ℕ) → is_never_copied slot ≡ true → may_divide slot ≡ false
-never-divided = by_slot (λ slot. is_never_copied slot ≡ true → may_divide slot ≡ false) (λ e. no_slot e)
-    (λ e. no_slot e) (λ e. no_slot e) (λ e. no_slot e) (λ slot d a b c _. rw (d, a, b, c) refl)
+-- so with that of sequences, which is past the tags
+pub by_any_slot : (P : ℕ → Type 0) → P GVAR → P HMTX → P POST → P VMTX → P SEQUENCES
+    → ((slot : ℕ) → nat_eq slot GVAR ≡ false → nat_eq slot HMTX ≡ false → nat_eq slot POST ≡ false
+    → nat_eq slot VMTX ≡ false → nat_eq slot SEQUENCES ≡ false → P slot) → (slot : ℕ) → P slot
+by_any_slot P gvar hmtx post vmtx sequences other = by_slot P gvar hmtx post vmtx
+    (λ slot d a b c. elim (cases_eq slot SEQUENCES) [
+      | inl e ↦ subst P (sym e) sequences
+      | inr n ↦ other slot d a b c (ne_eqb slot SEQUENCES n)
+    ])
+
+-- what is always empty is not divided
+pub never-divided : (slot : ℕ) → is_never_filled slot ≡ true → may_divide slot ≡ false
+never-divided = by_any_slot (λ slot. is_never_filled slot ≡ true → may_divide slot ≡ false) (λ e. no_slot e)
+    (λ e. no_slot e) (λ e. no_slot e) (λ e. no_slot e) (λ e. no_slot e) (λ slot d a b c f _. rw (d, a, b, c, f) refl)
 
 -- tables that are the same where none is divided
 abbrev pub AreAlike : Tables → Tables → Type 0
@@ -79,35 +91,44 @@ is_kept-alike F G alike map outline there A =
     λ i. λ g. reached (outline i) (roots i) (count i) g
 
 -- a table that may be missing, and that is made of a good one
-mapped_good : (bad : List ℕ → Bool) (f : List ℕ → List ℕ) → ((t : List ℕ) → bad t ≡ false → bad (f t) ≡ false)
-    → (o : Option (List ℕ)) → bad (unwrap_or o []) ≡ false → bad (unwrap_or (option_map f o) []) ≡ false
-mapped_good bad f good None ok = ok
-mapped_good bad f good (Some t) ok = good t ok
+mapped_good : (bad : List ℕ → Bool) (f : List ℕ → List ℕ) (o : Option (List ℕ))
+    → ((t : List ℕ) → o ≡ Some t → bad t ≡ false → bad (f t) ≡ false)
+    → bad (unwrap_or o []) ≡ false → bad (unwrap_or (option_map f o) []) ≡ false
+mapped_good bad f None good ok = ok
+mapped_good bad f (Some t) good ok = good t refl ok
 
-mapped_fine : (bad : List ℕ → Bool) (f : List ℕ → List ℕ) → ((t : List ℕ) → bad t ≡ false → bad (f t) ≡ false)
-    → (o : Option (List ℕ)) → option_map_or bad o false ≡ false → option_map_or bad (option_map f o) false ≡ false
-mapped_fine bad f good None ok = ok
-mapped_fine bad f good (Some t) ok = good t ok
+mapped_fine : (bad : List ℕ → Bool) (f : List ℕ → List ℕ) (o : Option (List ℕ))
+    → ((t : List ℕ) → o ≡ Some t → bad t ≡ false → bad (f t) ≡ false)
+    → option_map_or bad o false ≡ false → option_map_or bad (option_map f o) false ≡ false
+mapped_fine bad f None good ok = ok
+mapped_fine bad f (Some t) good ok = good t refl ok
 
 -- a font of the tables of another, each made anew, with the same outlines
 module _ (F G : Font) (ok : IsFont F) (f : ℕ → List ℕ → List ℕ) (alike : AreAlike F.copied G.copied)
     (tables : (slot : ℕ) → G.copied slot ≡ option_map (f slot) (F.copied slot))
-    (good : (slot : ℕ) (t : List ℕ) → is_bad_at slot (context F.copied) t ≡ false
+    (good : (slot : ℕ) (t : List ℕ) → F.copied slot ≡ Some t → is_bad_at slot (context F.copied) t ≡ false
     → is_bad_at slot (context F.copied) (f slot t) ≡ false) where
   hmtx_good : is_bad_hmtx (table_in_slot G.copied HMTX) (metric_count F.copied) (glyph_count F.copied) ≡ false
   unfolding context glyph_count metric_count
   hmtx_good = ap (λ (o : Option (List ℕ)). is_bad_hmtx (unwrap_or o []) (metric_count F.copied) (glyph_count F.copied))
       (tables HMTX)
-      ∙ mapped_good (λ t. is_bad_hmtx t (metric_count F.copied) (glyph_count F.copied)) (f HMTX) (good HMTX)
-      (F.copied HMTX) ok.hmtx
+      ∙ mapped_good (λ t. is_bad_hmtx t (metric_count F.copied) (glyph_count F.copied)) (f HMTX) (F.copied HMTX)
+      (good HMTX) ok.hmtx
+
+  sequences_good : is_bad_sequences (table_in_slot G.copied SEQUENCES) (glyph_count F.copied) ≡ false
+  unfolding context glyph_count
+  sequences_good =
+      ap (λ (o : Option (List ℕ)). is_bad_sequences (unwrap_or o []) (glyph_count F.copied)) (tables SEQUENCES)
+      ∙ mapped_good (λ t. is_bad_sequences t (glyph_count F.copied)) (f SEQUENCES) (F.copied SEQUENCES)
+      (good SEQUENCES) ok.sequences
 
   gvar_good : option_map_or (λ t. is_bad_variations t (F.copied FVAR) (glyph_count F.copied)) (G.copied GVAR) false
       ≡ false
   unfolding context glyph_count is_bad_variations_in
   gvar_good = ap (λ (o : Option (List ℕ)). option_map_or (λ t. is_bad_variations t (F.copied FVAR)
       (glyph_count F.copied)) o false) (tables GVAR)
-      ∙ mapped_fine (λ t. is_bad_variations t (F.copied FVAR) (glyph_count F.copied)) (f GVAR) (good GVAR)
-      (F.copied GVAR) ok.variations
+      ∙ mapped_fine (λ t. is_bad_variations t (F.copied FVAR) (glyph_count F.copied)) (f GVAR) (F.copied GVAR)
+      (good GVAR) ok.variations
 
   gvar_moved : option_map_or (λ t. is_bad_variations t (F.copied FVAR) (glyph_count F.copied)) (G.copied GVAR) false
       ≡ false → is_bad_variations_in G.copied ≡ false
@@ -117,7 +138,7 @@ module _ (F G : Font) (ok : IsFont F) (f : ℕ → List ℕ → List ℕ) (alike
       (glyph_count-alike F.copied G.copied alike i)) (G.copied GVAR) false) ∙ h
 
   pub IsFont-alike : G.head ≡ F.head → G.map ≡ F.map → G.outline ≡ F.outline → G.there ≡ F.there
-      → ((slot g : ℕ) → is_never_copied slot ≡ true → G.parts slot g ≡ []) → IsFont G
+      → ((slot g : ℕ) → is_never_filled slot ≡ true → G.parts slot g ≡ []) → IsFont G
   IsFont-alike head map outline there unparted =
       let n = glyph_count-alike F.copied G.copied alike in
       let k = metric_count-alike F.copied G.copied alike in
@@ -137,6 +158,7 @@ module _ (F G : Font) (ok : IsFont F) (f : ℕ → List ℕ → List ℕ) (alike
         hhea = (λ i. is_bad_hhea (table HHEA refl i) (n i)) ∙ ok.hhea;
         hmtx = (λ i. is_bad_hmtx (table_in_slot G.copied HMTX) (k i) (n i)) ∙ hmtx_good;
         variations = gvar_moved gvar_good;
+        sequences = ap (is_bad_sequences (table_in_slot G.copied SEQUENCES)) n ∙ sequences_good;
       }
 
 -- no table of a font is bad
@@ -144,13 +166,15 @@ pub good-font : (F : Font) → IsFont F → (slot : ℕ) (t : List ℕ) → F.co
     → is_bad_at slot (context F.copied) t ≡ false
 unfolding context glyph_count metric_count is_bad_variations_in
 good-font F ok =
-    by_slot (λ slot. (t : List ℕ) → F.copied slot ≡ Some t → is_bad_at slot (context F.copied) t ≡ false)
+    by_any_slot (λ slot. (t : List ℕ) → F.copied slot ≡ Some t → is_bad_at slot (context F.copied) t ≡ false)
     (λ t e. sym (ap (λ (o : Option (List ℕ)). option_map_or (λ x. is_bad_variations x (F.copied FVAR)
     (glyph_count F.copied)) o false) e) ∙ ok.variations)
     (λ t e. sym (ap (λ (o : Option (List ℕ)). is_bad_hmtx (unwrap_or o []) (metric_count F.copied)
     (glyph_count F.copied)) e) ∙ ok.hmtx)
     (λ t e. refl) (λ t e. refl)
-    (λ slot d a _ _ t e. rw (d, a) refl)
+    (λ t e. sym (ap (λ (o : Option (List ℕ)). is_bad_sequences (unwrap_or o []) (glyph_count F.copied)) e)
+    ∙ ok.sequences)
+    (λ slot d a _ _ n t e. rw (d, a, n) refl)
 
 -- an option by what it is
 pub map_none : (f : List ℕ → List ℕ) (o : Option (List ℕ)) → option_map f o ≡ None → o ≡ None

@@ -1,7 +1,6 @@
 -- The tables that are divided are divided as is asked.
-use Rattle.std.proofs.Common.{◌≡◌, ℕ, ◌+◌, ◌-◌, ◌*◌, ◌<◌, ◌≤◌, Bool, true, false, cond, nat_eq, nat_lt, ◌||◌, ◌⊎◌}
-use Rattle.std.proofs.Common.{inl, inr}
-use Rattle.std.proofs.Common.{List, [], ◌++◌, length, get_or, replicate, take, drop, refl, sym, ◌∙◌, ap, subst}
+use Rattle.std.proofs.Common.{◌≡◌, ℕ, ◌+◌, ◌-◌, ◌*◌, ◌<◌, ◌≤◌, Bool, true, false, cond, nat_eq, nat_lt, ◌||◌, ◌⊎◌, inl}
+use Rattle.std.proofs.Common.{inr, List, [], ◌++◌, length, get_or, replicate, take, drop, refl, sym, ◌∙◌, ap, subst}
 use Rattle.std.proofs.Common.{arith, Option}
 use Rattle.std.specs.Str.{bytes_eq}
 use Rattle.std.proofs.lemmas.Bool.{cases_Bool, cases_lt, le-ltb, lt-ltb, ltb-false, or_parts}
@@ -21,8 +20,7 @@ use Rattle.font_theory.specs.Parted.{thin_post, variations}
 use Rattle.font_theory.specs.Parting.{AlwaysFits, IsParting, IsPartition, Parting, Tables, is_bad_at, may_divide}
 use Rattle.font_theory.specs.Parting.{undivided}
 use Rattle.font_theory.proofs.EntryLemmas.{AreThere, entry_size-four, four, four-same, four-zero, get_or-four}
-use Rattle.font_theory.proofs.EntryLemmas.{laid-laid}
-use Rattle.font_theory.proofs.EntryLemmas.{length-laid, metric_bytes-is, metric_bytes-laid}
+use Rattle.font_theory.proofs.EntryLemmas.{laid-laid, length-laid, metric_bytes-is, metric_bytes-laid}
 use Rattle.font_theory.proofs.PartLemmas.{by_slot, no_slot}
 
 -- nothing of a table is of a glyph
@@ -30,7 +28,7 @@ pub IsParting-undivided : (bad : Tables → List ℕ → Bool) → IsParting bad
 unfolding undivided
 IsParting-undivided bad = record {
   frame_good = λ c t h. h;
-  whole_good = λ c frame parts h. h;
+  whole_good = λ c frame parts h fit. h;
   frame_again = λ c t h. refl;
   own_fit = λ c t h. refl;
   fewer_fit = λ c frame parts fewer h fit few. refl;
@@ -71,7 +69,7 @@ pub IsParting-nameless : IsParting (λ _ _. false) nameless
 unfolding nameless
 IsParting-nameless = record {
   frame_good = λ c t h. refl;
-  whole_good = λ c frame parts h. refl;
+  whole_good = λ c frame parts h fit. refl;
   frame_again = λ c t h. thin_post-thin_post t;
   own_fit = λ c t h. refl;
   fewer_fit = λ c frame parts fewer h fit few. refl;
@@ -175,7 +173,7 @@ module _ (bad : Tables → List ℕ → Bool) (alike : (c : Tables) (t u : List 
   unfolding metrics
   IsParting-metrics = record {
     frame_good = λ c t h. alike c _ t (length-laid (λ _. []) (pairs_of c header t) (glyph_count c) t) ∙ h;
-    whole_good = λ c f parts h. alike c _ f (length-laid parts (pairs_of c header f) (glyph_count c) f) ∙ h;
+    whole_good = λ c f parts h fit. alike c _ f (length-laid parts (pairs_of c header f) (glyph_count c) f) ∙ h;
     frame_again = λ c t h. laid_again header c t (λ _. []) (λ _. []);
     own_fit = λ c t h. refl;
     fewer_fit = λ c f parts fewer h fit few. refl;
@@ -195,7 +193,7 @@ pub IsParting-variations : IsParting (λ c t. is_bad_variations t (c FVAR) (glyp
 unfolding variations
 IsParting-variations = record {
   frame_good = λ c t h. parts_accepted t (c FVAR) (glyph_count c) (λ _. []) h;
-  whole_good = λ c f parts h. parts_accepted f (c FVAR) (glyph_count c) parts h;
+  whole_good = λ c f parts h fit. parts_accepted f (c FVAR) (glyph_count c) parts h;
   frame_again = λ c t h. gvar_with-again (λ _. []) (λ _. []) (glyph_count c) t (c FVAR) h;
   own_fit = λ c t h. refl;
   fewer_fit = λ c f parts fewer h fit few. refl;

@@ -1,6 +1,6 @@
 -- What holds of each reader that sees more tables than a plain one, and refuses more.
-use Rattle.std.proofs.Common.{◌≡◌, ◌≢◌, ℕ, ◌<◌, ◌≤◌, Bool, true, false, cond, nat_eq, List, [], length, refl, sym}
-use Rattle.std.proofs.Common.{◌∙◌, ap, subst, inl, inr, Option, Some, None, unwrap_or, arith}
+use Rattle.std.proofs.Common.{◌≡◌, ◌≢◌, ℕ, ◌<◌, ◌≤◌, Bool, true, false, cond, nat_eq, List, [], length, refl, sym, ◌∙◌}
+use Rattle.std.proofs.Common.{ap, subst, inl, inr, Option, Some, None, unwrap_or, arith}
 use Rattle.std.specs.Bool.{Decides}
 use Rattle.std.specs.Option.{option_or}
 use Rattle.std.proofs.lemmas.Bool.{cases_Bool, eqb-true, leb-false, or_parts}
@@ -20,8 +20,10 @@ use Rattle.font_file.specs.declared.font_error.FontError.{FontError}
 use Rattle.font_file.specs.declared.font_error.FontError.TheVariants.{Directory}
 use Rattle.font_theory.specs.Bytes.{padded}
 use Rattle.font_theory.specs.Content.{IsFont, Wanted, content, glyph_count, is_bad_variations_in, is_kept, is_made}
-use Rattle.font_theory.specs.Content.{is_never_copied, is_root, metric_count, plain_font, read_back, table_in_slot}
+use Rattle.font_theory.specs.Content.{is_never_filled, is_root, metric_count, plain_font, read_back, table_in_slot}
 use Rattle.font_theory.specs.Kinds.{without_layout}
+use Rattle.font_theory.specs.SequenceTable.{is_bad_sequences}
+use Rattle.font_theory.specs.declared.kinds.TheConstants.{SEQUENCES}
 use Rattle.font_theory.proofs.ContentLemmas.{IsKept-number, IsKept-wanted, read_back-reached}
 use Rattle.font_theory.proofs.FileWantedLemmas.{Reach-file, Reach-font, outline-file, roots-font}
 use Rattle.font_theory.proofs.FontLemmas.{IsFont-accepted, glyph_count-file, size-accepted, size-refused}
@@ -84,10 +86,10 @@ module _ (file : List ℕ) (c : Tables) (there : ℕ → Bool) (below : (slot : 
       metric_of-tables file g ∙ (λ i. metric_in (sym hmtx-seen i) (sym metric_count-seen i) g)
 
   -- it sees a font in an accepted file
-  pub IsFont-seen : font_fault file ≡ None → ((slot : ℕ) → is_never_copied slot ≡ true → c slot ≡ None)
-      → is_bad_variations_in c ≡ false → ((g : ℕ) → there g ≡ true → g < glyph_count c)
-      → IsFont (seen file c there)
-  IsFont-seen accepted slots variations low =
+  pub IsFont-seen : font_fault file ≡ None → ((slot : ℕ) → is_never_filled slot ≡ true → c slot ≡ None)
+      → is_bad_variations_in c ≡ false → is_bad_sequences (table_in_slot c SEQUENCES) (glyph_count c) ≡ false
+      → ((g : ℕ) → there g ≡ true → g < glyph_count c) → IsFont (seen file c there)
+  IsFont-seen accepted slots variations sequences low =
       let ok = IsFont-accepted file accepted in
       let n = glyph_count-seen in
       record {
@@ -103,6 +105,7 @@ module _ (file : List ℕ) (c : Tables) (there : ℕ → Bool) (below : (slot : 
         hhea = (λ i. is_bad_hhea (table-seen HHEA (omega arith) i) (n i)) ∙ ok.hhea;
         hmtx = (λ i. is_bad_hmtx (hmtx-seen i) (metric_count-seen i) (n i)) ∙ ok.hmtx;
         variations = variations;
+        sequences = sequences;
       }
 
   -- of which a plain reader sees all but the tables of layout and of variations

@@ -17,7 +17,8 @@ module _ (R : Format) (law : IsFormat R) where
     CanJoin-tested h = record {
       first = is_cut-tells R law X okX h.0;
       second = is_cut-tells R law Y okY h.1;
-      agree = Agree-from_none _ _ (IsClosed-whole R law X okX) (IsClosed-whole R law Y okY) h.2;
+      agree = Agree-from_none _ _ (IsClosed-whole R law X okX) (IsClosed-whole R law Y okY)
+          (law.same_sequences X Y okX okY) h.2;
       fit = h.3;
     }
 

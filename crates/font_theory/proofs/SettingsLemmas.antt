@@ -1,44 +1,52 @@
 -- The reader and the writer of cuts with any settings go together.
-use Rattle.std.proofs.Common.{◌≡◌, ◌≢◌, ℕ, ◌+◌, ◌-◌, ◌%◌, ◌<◌, ◌≤◌, Bool, true, false, cond, ◌&&◌, ◌||◌, nat_le}
-use Rattle.std.proofs.Common.{nat_lt, inl, inr, is_some, unwrap_or, List, [], ◌∷◌, length, refl}
-use Rattle.std.proofs.Common.{sym, ◌∙◌, ap, subst, arith, Option, Some, None}
+use Rattle.std.proofs.Common.{◌≡◌, ◌≢◌, ℕ, ◌+◌, ◌-◌, ◌%◌, ◌<◌, ◌≤◌, Bool, true, false, cond, ◌&&◌, ◌||◌, nat_eq, nat_le}
+use Rattle.std.proofs.Common.{◌⊎◌, nat_lt, inl, inr, is_some, unwrap_or, List, [], ◌∷◌, length, refl, sym, ◌∙◌, ap}
+use Rattle.std.proofs.Common.{subst, arith, Option, Some, None}
 use Rattle.std.specs.Option.{option_map, option_or}
-use Rattle.std.proofs.lemmas.Bool.{and_parts, cases_Bool, cases_lt, leb-true, lt-ltb, ltb-true, or_cases, or_left}
+use Rattle.std.proofs.lemmas.Bool.{and_parts, cases_Bool, cases_eq, cases_lt, cond-false, leb-true, lt-ltb, ltb-true}
+use Rattle.std.proofs.lemmas.Bool.{ne_eqb, or_cases, or_left}
 use Rattle.std.proofs.Math.Path.{fun_ext}
 use Rattle.sfnt_bytes.specs.Directory.{slot_tag, table_of}
 use Rattle.sfnt_bytes.specs.Lines.{first_of_lines, when}
 use Rattle.sfnt_bytes.specs.Refusals.{tag_lines}
 use Rattle.sfnt_bytes.specs.declared.directory.DirError.TheVariants.{DuplicateTable, FileTooLarge, TableOutOfFile}
 use Rattle.sfnt_bytes.specs.declared.directory.TheConstants.{MAX_FILE}
-use Rattle.sfnt_bytes.specs.declared.tag.TheConstants.{ALL_SLOTS, SLOTS}
+use Rattle.sfnt_bytes.specs.declared.tag.TheConstants.{SLOTS}
 use Rattle.sfnt_bytes.proofs.LineLemmas.{first_of_lines-none_at, when-none}
-use Rattle.font_file.specs.Font.{font_fault}
+use Rattle.font_tables.specs.Fields.{glyph_count_of}
+use Rattle.font_file.specs.Font.{cmap_of, font_fault, map_of}
 use Rattle.font_file.specs.declared.font_error.FontError.{FontError}
 use Rattle.font_file.specs.declared.font_error.FontError.TheVariants.{BadVariations, Directory}
 use Rattle.font_theory.specs.Content.{Content, Font, IsClosedContent, IsFont, Wanted, content, everything, glyph_count}
-use Rattle.font_theory.specs.Content.{is_bad_variations_in, is_kept, is_made, is_never_copied, plain_font, read_back}
+use Rattle.font_theory.specs.Content.{is_bad_variations_in, is_kept, is_made, is_never_copied, is_never_filled}
+use Rattle.font_theory.specs.Content.{plain_font, read_back}
 use Rattle.font_theory.specs.Cut.{Arises, IsCut, IsFormat, Writes, content_of_all}
 use Rattle.font_theory.specs.Cut.Arises.{of_file, of_two}
 use Rattle.font_theory.specs.File.{IsWriting, Writing, current_profile, current_writing, file, writing_of}
 use Rattle.font_theory.specs.Kinds.{AreSettings, IsKind, Reading, Settings, fault_by, font_by, format_by, lines_by}
-use Rattle.font_theory.specs.Kinds.{has_record, read_by, tables_by, there_by}
+use Rattle.font_theory.specs.Kinds.{has_record, read_by, sequences_of_file, table_in_file, tables_by, there_by}
+use Rattle.font_theory.specs.Difference.{PARTED}
+use Rattle.font_theory.specs.Parted.{sequences}
+use Rattle.font_theory.specs.SequenceTable.{is_bad_sequences}
+use Rattle.font_theory.specs.declared.kinds.TheConstants.{SEQUENCES}
 use Rattle.font_theory.specs.Kinds.Reading.{absent, as_it_is, unvarying}
 use Rattle.font_theory.specs.Agreement.{Agree, both}
 use Rattle.font_theory.specs.Bytes.{padded}
-use Rattle.font_theory.specs.Parting.{Partition, Tables, divided, frames, parts_of, undivided, undivided_content}
-use Rattle.font_theory.specs.Parting.{wholes}
+use Rattle.font_theory.specs.Parting.{Parting, context, Partition, Tables, divided, frames, parts_of, undivided}
+use Rattle.font_theory.specs.Parting.{undivided_content, wholes}
 use Rattle.font_glyph.specs.Reach.{any_below}
 use Rattle.font_glyph.specs.RecordMap.{record_in}
-use Rattle.sfnt_bytes.specs.declared.tag.TheConstants.{ALL_SLOTS}
 use Rattle.font_theory.proofs.PaddingLemmas.{length-padded-is}
 use Rattle.font_theory.proofs.AcceptedLemmas.{font_fault-file, none_outside, none_twice}
 use Rattle.font_theory.proofs.ArisesLemmas.{IsClosed-arises}
 use Rattle.font_theory.proofs.CmapLemmas.{IsWriting-writing_of}
 use Rattle.font_theory.proofs.DividedLemmas.{IsClosed-whole_content, IsDivided, IsDivided-arises, IsDivided-content}
 use Rattle.font_theory.proofs.DividedLemmas.{IsFont-divided, divided-whole, none-misfit, parts-whole}
-use Rattle.font_theory.proofs.FontLemmas.{size-accepted}
-use Rattle.font_theory.proofs.LinkLemmas.{fixed-map}
-use Rattle.font_theory.proofs.MeaningLemmas.{copied_of-file, font_with-file, outline_again}
+use Rattle.font_theory.proofs.FontLemmas.{IsFont-accepted, glyph_count-file, size-accepted}
+use Rattle.font_theory.proofs.LinkLemmas.{fixed-map, never-filled}
+use Rattle.font_theory.proofs.MeaningLemmas.{copied_of-file, font_with-file, outline_again, sequences_of_file-file}
+use Rattle.font_theory.proofs.SequenceFontLemmas.{good_font}
+use Rattle.font_theory.proofs.SequencePartLemmas.{good_none}
 use Rattle.font_theory.proofs.PartLemmas.{frames-other, frames-undivided, glyph_count-alike, wholes-other}
 use Rattle.font_theory.proofs.PartLemmas.{wholes-undivided}
 use Rattle.font_theory.proofs.ReaderLemmas.{IsFont-seen, count-seen, fine_font, fine_lines, refused_first, size_with}
@@ -51,10 +59,10 @@ read_by-again absent slot o = refl
 read_by-again as_it_is slot o = refl
 read_by-again unvarying slot o = fixed-map slot o
 
--- a table that a cut makes anew is never copied
-made-never : (slot : ℕ) → is_made slot ≡ true → slot < SLOTS → is_never_copied slot ≡ true
+-- the slot of a table that a cut makes anew is always empty
+made-never : (slot : ℕ) → is_made slot ≡ true → slot < SLOTS → is_never_filled slot ≡ true
 made-never slot made low = elim (or_cases _ (nat_le SLOTS slot) made) [
-  | inl one ↦ or_left _ (nat_le ALL_SLOTS slot) one
+  | inl one ↦ or_left _ (nat_lt SEQUENCES slot) one
   | inr past ↦ let far = leb-true SLOTS slot past in absurd (omega arith)
 ]
 
@@ -80,10 +88,10 @@ some-padded b =
 pub has_record-padded : (b : List ℕ) (parts : ℕ → List ℕ) → has_record (padded b) parts ≡ has_record b parts
 unfolding has_record
 has_record-padded b parts =
-    ap (λ t. t || any_below (λ slot. nat_lt 0 (length (parts slot))) ALL_SLOTS) (some-padded b)
+    ap (λ t. t || any_below (λ slot. nat_lt 0 (length (parts slot))) PARTED) (some-padded b)
 
 pub has_record-nothing : has_record [] (λ _. []) ≡ false
-unfolding has_record
+unfolding has_record PARTED
 has_record-nothing = refl
 
 -- what is there of a content is said by its outlines and its parts
@@ -133,14 +141,21 @@ marked-both s L M agree g l m = go (L.outline g) l
         g))) count
     go (Some a) x = x
 
+-- before the slot of sequences a file has the tables of its tags
+pub table_in_file-tag : (X : List ℕ) (slot : ℕ) → slot ≢ SEQUENCES → table_in_file X slot ≡ table_of X (slot_tag slot)
+table_in_file-tag X slot other =
+    cond-false (nat_eq slot SEQUENCES) (Some (sequences_of_file X)) (table_of X (slot_tag slot))
+    (ne_eqb slot SEQUENCES other)
+
 module _ (s : Settings) (is : AreSettings s) where
   -- a table of a plain slot is read as a plain reader reads it
   pub tables_by-below : (X : List ℕ) (slot : ℕ) → slot < SLOTS → tables_by s X slot ≡ (plain_font X).copied slot
   tables_by-below X slot low =
       elim (cases_Bool (is_made slot)) [
-        | inl t ↦ ap (λ r. read_by r slot (table_of X (slot_tag slot))) (is.never slot (made-never slot t low))
+        | inl t ↦ ap (λ r. read_by r slot (table_in_file X slot)) (is.never slot (made-never slot t low))
             ∙ rw t refl
-        | inr f ↦ ap (λ r. read_by r slot (table_of X (slot_tag slot))) (is.plain slot f)
+        | inr f ↦ ap (λ r. read_by r slot (table_in_file X slot)) (is.plain slot f)
+            ∙ table_in_file-tag X slot (λ e. omega (arith, e, low))
             ∙ rw f (ap (table_of X) (slot_tag-kept slot low))
       ]
 
@@ -159,12 +174,32 @@ module _ (s : Settings) (is : AreSettings s) where
     none_refused = fine_lines X (lines_by s X) accepted
 
     pub IsFont-by : IsFont (font_by s X)
+    unfolding sequences_of_file
     IsFont-by =
         IsFont-seen X (tables_by s X) (there_by s (tables_by s X) (plain_font X).outline) (tables_by-below X)
         font_fault-by
-        (λ slot never. ap (λ r. read_by r slot (table_of X (slot_tag slot))) (is.never slot never))
+        (λ slot never. ap (λ r. read_by r slot (table_in_file X slot)) (is.never slot never))
         (when-none _ BadVariations (first_of_lines-none_at (lines_by s X) 1 none_refused))
+        (go is.sequences)
         (there-low s (tables_by s X) (plain_font X).outline)
+      where
+        n : glyph_count (tables_by s X) ≡ glyph_count_of X
+        n = count-seen X (tables_by s X) (λ _. false) (tables_by-below X)
+
+        below : (code : ℕ) → map_of X code < glyph_count_of X
+        below code = subst (λ (k : ℕ). map_of X code < k) (glyph_count-file X)
+            ((IsFont-accepted X font_fault-by).mapped_below code)
+
+        of_reading : Reading → Bool
+        of_reading r = is_bad_sequences (unwrap_or (read_by r SEQUENCES (Some (sequences_of_file X))) [])
+            (glyph_count (tables_by s X))
+
+        go : ((s.reading SEQUENCES ≡ absent)
+            ⊎ ((s.reading SEQUENCES ≡ as_it_is) × (s.partition SEQUENCES ≡ sequences)))
+            → of_reading (s.reading SEQUENCES) ≡ false
+        go (inl e) = ap of_reading e ∙ good_none (glyph_count (tables_by s X))
+        go (inr w) = ap of_reading w.0 ∙ ap (is_bad_sequences (sequences_of_file X)) n
+            ∙ good_font (glyph_count_of X) (map_of X) (cmap_of X) below
 
   -- what is refused, but for its size, is not too large, and a file that is refused as a font has the same refusal
   pub size-by : (X : List ℕ) (error : FontError) → fault_by s X ≡ Some error → error ≢ Directory FileTooLarge
@@ -181,7 +216,7 @@ module _ (s : Settings) (is : AreSettings s) where
   AreRead c = (slot : ℕ) → read_by (s.reading slot) slot (c slot) ≡ c slot
 
   pub AreRead-tables : (X : List ℕ) → AreRead (tables_by s X)
-  AreRead-tables X slot = read_by-again (s.reading slot) slot (table_of X (slot_tag slot))
+  AreRead-tables X slot = read_by-again (s.reading slot) slot (table_in_file X slot)
 
   -- so are those that are made of them slot by slot
   AreRead-mapped : (c d : Tables) (f : ℕ → List ℕ → List ℕ) → ((slot : ℕ) → d slot ≡ option_map (f slot) (c slot))
@@ -204,15 +239,57 @@ module _ (s : Settings) (is : AreSettings s) where
   AreRead-wholes c parts read = AreRead-mapped c (wholes s.partition c parts) _ (λ slot. refl)
       (λ slot e. wholes-undivided s.partition c slot e parts) read
 
+  -- where sequences are read there is a table of them
+  abbrev pub HasSequences : Tables → Type 0
+  HasSequences c = s.reading SEQUENCES ≡ as_it_is → (t : List ℕ) × (c SEQUENCES ≡ Some t)
+
+  pub HasSequences-tables : (X : List ℕ) → HasSequences (tables_by s X)
+  HasSequences-tables X e = (sequences_of_file X, ap (λ r. read_by r SEQUENCES (Some (sequences_of_file X))) e)
+
+  HasSequences-mapped : (c d : Tables) (f : List ℕ → List ℕ) → d SEQUENCES ≡ option_map f (c SEQUENCES)
+      → HasSequences c → HasSequences d
+  HasSequences-mapped c d f made has e = (f (has e).0, made ∙ ap (option_map f) (has e).1)
+
+  HasSequences-frames : (c : Tables) → HasSequences c → HasSequences (frames s.partition c)
+  unfolding frames
+  HasSequences-frames c has = HasSequences-mapped c (frames s.partition c) _ refl has
+
+  HasSequences-wholes : (c : Tables) (parts : ℕ → ℕ → List ℕ) → HasSequences c
+      → HasSequences (wholes s.partition c parts)
+  unfolding wholes
+  HasSequences-wholes c parts has = HasSequences-mapped c (wholes s.partition c parts) _ refl has
+
   -- the file of a closed content is accepted, and read back
   module _ (writing : Writing) (asked : IsWriting writing) (K : Content) (ok : IsClosedContent K)
-      (read : AreRead K.copied) where
+      (read : AreRead K.copied) (has : HasSequences K.copied) where
+    sequences_by-file : ((s.reading SEQUENCES ≡ absent)
+        ⊎ ((s.reading SEQUENCES ≡ as_it_is) × (s.partition SEQUENCES ≡ sequences)))
+        → tables_by s (file writing K) SEQUENCES ≡ K.copied SEQUENCES
+    sequences_by-file (inl e) =
+        ap (λ r. read_by r SEQUENCES (Some (sequences_of_file (file writing K)))) e
+        ∙ sym (ap (λ r. read_by r SEQUENCES (K.copied SEQUENCES)) e) ∙ read SEQUENCES
+    sequences_by-file (inr w) =
+        let some = has w.0 in
+        ap (λ r. read_by r SEQUENCES (Some (sequences_of_file (file writing K)))) w.0
+        ∙ ap Some (sequences_of_file-file writing K (IsWritable-closed K ok) asked
+        ∙ ap (λ (o : Option (List ℕ)). unwrap_or o []) some.1)
+        ∙ sym some.1
+
     pub tables_by-file : (slot : ℕ) → tables_by s (file writing K) slot ≡ K.copied slot
     tables_by-file slot =
-        elim (cases_Bool (is_never_copied slot)) [
-          | inl t ↦ ap (λ r. read_by r slot (table_of (file writing K) (slot_tag slot))) (is.never slot t)
-              ∙ sym (ok.font.slots slot t)
-          | inr f ↦ ap (read_by (s.reading slot) slot) (copied_of-file writing K slot f) ∙ read slot
+        elim (cases_eq slot SEQUENCES) [
+          | inl e ↦ subst (λ (k : ℕ). tables_by s (file writing K) k ≡ K.copied k) (sym e)
+              (sequences_by-file is.sequences)
+          | inr other ↦ elim (cases_Bool (is_never_copied slot)) [
+            | inl t ↦
+                let never = never-filled slot t other in
+                ap (λ r. read_by r slot (table_in_file (file writing K) slot)) (is.never slot never)
+                ∙ sym (ok.font.slots slot never)
+            | inr f ↦
+                ap (read_by (s.reading slot) slot) (table_in_file-tag (file writing K) slot other
+                ∙ copied_of-file writing K slot f)
+                ∙ read slot
+          ]
         ]
 
     written_directory : first_of_lines (tag_lines s.tags (file writing K)) ≡ None
@@ -260,9 +337,31 @@ module _ (s : Settings) (is : AreSettings s) where
       (AreRead-frames (tables_by s X) (AreRead-tables X))
   AreRead-by K (of_two L M l m agree fit e) = subst (λ (C : Content). AreRead C.copied) e (AreRead-by L l)
 
+  pub HasSequences-by : (K : Content) → Arises (format_by s) K → HasSequences K.copied
+  unfolding format_by
+  HasSequences-by K (of_file X A h e) = subst (λ (C : Content). HasSequences C.copied) e
+      (HasSequences-frames (tables_by s X) (HasSequences-tables X))
+  HasSequences-by K (of_two L M l m agree fit e) =
+      subst (λ (C : Content). HasSequences C.copied) e (HasSequences-by L l)
+
+  abbrev framed : List ℕ → Parting → Reading → Option (List ℕ)
+  framed X D r = option_map (D.frame (context (tables_by s X))) (read_by r SEQUENCES (Some (sequences_of_file X)))
+
+  -- what is of no glyph is the same of all files: of their sequences there is nothing
+  frame_of_sequences : (X : List ℕ) → frames p (tables_by s X) SEQUENCES
+      ≡ read_by (s.reading SEQUENCES) SEQUENCES (Some [])
+  unfolding frames sequences
+  frame_of_sequences X = go is.sequences
+    where
+      go : ((s.reading SEQUENCES ≡ absent) ⊎ ((s.reading SEQUENCES ≡ as_it_is) × (p SEQUENCES ≡ sequences)))
+          → framed X (p SEQUENCES) (s.reading SEQUENCES) ≡ read_by (s.reading SEQUENCES) SEQUENCES (Some [])
+      go (inl e) = ap (framed X (p SEQUENCES)) e ∙ sym (ap (λ r. read_by r SEQUENCES (Some [])) e)
+      go (inr w) = (λ i. framed X (w.1 i) (w.0 i)) ∙ sym (ap (λ r. read_by r SEQUENCES (Some [])) w.0)
+
   pub IsClosed-by : (K : Content) → Arises (format_by s) K → IsClosedContent (undivided_content p K)
   IsClosed-by K arises =
       IsClosed-whole_content p is.partition K (IsClosed-arises (format_by s) divided-fonts K arises)
+      (IsDivided-by K arises).fit
 
   -- what is there of it is said by its outlines and its parts, and by what it is written as
   pub marked-by : (K : Content) → Arises (format_by s) K → (g : ℕ) → K.there g ≡ marked s K g
@@ -292,9 +391,10 @@ module _ (s : Settings) (is : AreSettings s) where
       let S : Content = undivided_content p K in
       let closed = IsClosed-by K arises in
       let read = AreRead-wholes K.copied K.parts (AreRead-by K arises) in
+      let has = HasSequences-wholes K.copied K.parts (HasSequences-by K arises) in
       subst (λ (Y : List ℕ). (fault_by s Y ≡ None) × (font_by s Y ≡ read_back S)) e (
-        fault_by-file writing asked S closed read (subst (λ (Y : List ℕ). length Y ≤ MAX_FILE) (sym e) small),
-        font_by-file writing asked S closed read (λ slot g. refl) (there-written K arises),
+        fault_by-file writing asked S closed read has (subst (λ (Y : List ℕ). length Y ≤ MAX_FILE) (sym e) small),
+        font_by-file writing asked S closed read has (λ slot g. refl) (there-written K arises),
       )
 
   pub reads-by : (K : Content) (X : List ℕ) → Arises (format_by s) K → Writes (format_by s) K X → length X ≤ MAX_FILE
@@ -312,6 +412,7 @@ module _ (s : Settings) (is : AreSettings s) where
     is_font = divided-fonts;
     accepted_size = λ X h. size-accepted X (font_fault-by X h);
     refused_size = size-by;
+    same_sequences = λ X Y h k. frame_of_sequences X ∙ sym (frame_of_sequences Y);
     own_fit = λ X A h. none-misfit p (content (divided p (font_by s X)) A)
         (IsDivided-content p is.partition (font_by s X) A (IsFont-by X h)).fit;
     reads_back = λ K X arises w small.

@@ -10,12 +10,11 @@ use Rattle.sfnt_bytes.specs.Findings.{padding_of}
 use Rattle.sfnt_bytes.specs.Lines.{said_lines}
 use Rattle.font_theory.specs.Bytes.{padded}
 use Rattle.font_theory.specs.Content.{Content, IsWritable, glyph_count}
-use Rattle.font_theory.specs.File.{Writing, adjustment_in, bodies_of, bytes_in_slot, cmap_bytes, file, glyf_bytes}
-use Rattle.font_theory.specs.File.{groups_of_content, loca_bytes, outlines_from, outlines_of, padded_length, size_of}
-use Rattle.font_theory.specs.File.{table_at_place, tables_from}
+use Rattle.font_theory.specs.File.{Writing, adjustment_in, bodies_of, bytes_in_slot, cmap_of_content, file, glyf_bytes}
+use Rattle.font_theory.specs.File.{loca_bytes, outlines_from, outlines_of, padded_length, size_of, table_at_place}
+use Rattle.font_theory.specs.File.{tables_from}
 use Rattle.sfnt_bytes.specs.Directory.{slot_at}
 use Rattle.font_theory.proofs.AdjustmentLemmas.{length-with_adjustment}
-use Rattle.font_theory.proofs.CmapLemmas.{length-cmap_bytes}
 use Rattle.font_theory.proofs.MeaningLemmas.{file-is, last_head, last_tables}
 use Rattle.font_theory.proofs.OutlineLemmas.{length-loca_bytes, length-outlines_of}
 use Rattle.font_theory.proofs.PaddedLemmas.{length-padded, padded-nil, padded-same}
@@ -89,7 +88,7 @@ total-extra a b c d = omega arith
 -- a measure of a slot is that of the copied table, or of one of the four
 abbrev IsMeasured : Writing → Content → List ℕ → (Option (List ℕ) → ℕ) → ℕ → Type 0
 IsMeasured writing K head m slot = m (bytes_in_slot writing K head slot)
-    ≡ m (K.copied slot) + extra (m (Some (cmap_bytes writing (groups_of_content K))))
+    ≡ m (K.copied slot) + extra (m (Some (cmap_of_content writing K)))
     (m (Some (glyf_bytes writing (outlines_of K)))) (m (Some head)) (m (Some (loca_bytes (outlines_of K)))) slot
 
 none_copied : (x y : ℕ) → x ≡ 0 → y ≡ x + y
@@ -131,10 +130,10 @@ total-places h = omega arith
 -- all slots
 total-slots : (writing : Writing) (K : Content) (head : List ℕ) (m : Option (List ℕ) → ℕ) → IsWritable K → m None ≡ 0
     → total (λ place. m (bytes_in_slot writing K head (slot_at place))) 0 ALL_SLOTS
-    ≡ total (λ slot. m (K.copied slot)) 0 ALL_SLOTS + (m (Some (cmap_bytes writing (groups_of_content K)))
+    ≡ total (λ slot. m (K.copied slot)) 0 ALL_SLOTS + (m (Some (cmap_of_content writing K))
     + m (Some (glyf_bytes writing (outlines_of K))) + m (Some head) + m (Some (loca_bytes (outlines_of K))))
 total-slots writing K head m ok none =
-    let a = m (Some (cmap_bytes writing (groups_of_content K))) in
+    let a = m (Some (cmap_of_content writing K)) in
     let b = m (Some (glyf_bytes writing (outlines_of K))) in
     let c = m (Some head) in
     let d = m (Some (loca_bytes (outlines_of K))) in
@@ -154,7 +153,7 @@ length-last_tables writing K ok =
 
 pub length-last_bodies : (writing : Writing) (K : Content) → IsWritable K → length (bodies_of (last_tables writing K))
     ≡ sum (map (λ slot. padded_length (K.copied slot)) (range_with_len 0 ALL_SLOTS))
-    + (length (padded (cmap_bytes writing (groups_of_content K))) + length (padded (glyf_bytes writing (outlines_of K)))
+    + (length (padded (cmap_of_content writing K)) + length (padded (glyf_bytes writing (outlines_of K)))
     + length (padded K.head) + length (padded (loca_bytes (outlines_of K))))
 length-last_bodies writing K ok =
     let long = ok.head_size in
@@ -174,12 +173,10 @@ length-file writing K ok =
     ∙ length-file_of (last_tables writing K) (are_tables writing K (last_head writing K)) in
     let count = length-last_tables writing K ok in
     let bodies = length-last_bodies writing K ok in
-    let cmap_long = length-cmap_bytes writing (groups_of_content K) in
-    let cmap = ap (λ (b : List ℕ). length b) (padded-same (cmap_bytes writing (groups_of_content K)) (omega arith)) in
     let loca_long = length-loca_bytes (outlines_of K) in
     let loca = ap (λ (b : List ℕ). length b) (padded-same (loca_bytes (outlines_of K)) (omega arith)) in
     let glyphs = length-outlines_of K in
-    omega (arith, whole, count, bodies, cmap, cmap_long, loca, loca_long, glyphs)
+    omega (arith, whole, count, bodies, loca, loca_long, glyphs)
 
 -- outlines that are padded one by one need no padding together
 pub length-concat-whole : (outlines : List (List ℕ)) → Each (λ outline. padded outline ≡ outline) outlines

@@ -1,8 +1,6 @@
 -- Trees of joins, and what they come to.
 use Rattle.std.proofs.Common.{◌≡◌, ℕ, ◌≤◌, Bool, true, false, ◌⊎◌, inl, inr, ◌||◌, List, length, None, Some, refl, sym}
-use Rattle.std.proofs.Common.{◌∙◌}
-use Rattle.std.proofs.Common.{ap}
-use Rattle.std.proofs.Common.{subst}
+use Rattle.std.proofs.Common.{◌∙◌, ap, subst}
 use Rattle.std.proofs.lemmas.Bool.{or_cases, or_left, or_right}
 use Rattle.font_theory.specs.Cut.{Format, IsCurrent, IsCut, IsFormat, Under, cut, joined, content_of_all, misfit_of}
 use Rattle.font_theory.specs.Agreement.{Agree, both}
@@ -118,7 +116,9 @@ module _ (R : Format) (law : IsFormat R) where
 
   decide : (x y : List ℕ) → IsCut R x → IsCut R y → Agree (content_of_all R x) (content_of_all R y)
       ⊎ (¬ Agree (content_of_all R x) (content_of_all R y))
-  decide x y cx cy = Agree-decided _ _ (IsClosed-whole R law x cx.accepted) (IsClosed-whole R law y cy.accepted)
+  decide x y cx cy =
+      Agree-decided _ _ (IsClosed-whole R law x cx.accepted) (IsClosed-whole R law y cy.accepted)
+      (law.same_sequences x y cx.accepted cy.accepted)
 
   -- where a part of a tree stops, the tree does
   first_stops : (s t : JoinTree (List ℕ)) → Differs R s ⊎ Overflows R s → Differs R (node s t) ⊎ Overflows R (node s t)

@@ -21,4 +21,5 @@ IsWritable-closed K ok = record {
   head_form = ok.font.head_form;
   head_size = head-size K.head ok.font.head;
   past = outline-past K ok;
+  sequences = ok.font.sequences;
 }

@@ -1,11 +1,10 @@
 -- What is read of an accepted font, and what a cut is made of, this project's own; tables stand by slot.
-use Rattle.std.specs.Prelude.{◌≡◌, ℕ, ◌<◌, ◌≤◌, ◌&&◌, nat_eq, nat_le, nat_lt, Bool, true, false, ◌||◌, List, [], length}
+use Rattle.std.specs.Prelude.{◌≡◌, ℕ, ◌<◌, ◌≤◌, ◌&&◌, nat_eq, nat_lt, Bool, true, false, ◌||◌, List, [], length}
 use Rattle.std.specs.Prelude.{if◌then◌else◌, Option, None, IsSome, unwrap_or}
 use Rattle.std.specs.Option.{option_map_or}
 use Rattle.sfnt_bytes.specs.Directory.{kept_tag, table_of}
 use Rattle.sfnt_bytes.specs.Lines.{when}
-use Rattle.sfnt_bytes.specs.declared.tag.TheConstants.{ALL_SLOTS, CMAP, FIRST_VARIATION, FVAR, GLYF}
-use Rattle.sfnt_bytes.specs.declared.tag.TheConstants.{GVAR, HEAD, HHEA, HMTX, LOCA, MAXP, SLOTS}
+use Rattle.sfnt_bytes.specs.declared.tag.TheConstants.{FVAR, GVAR, HHEA, HMTX, MAXP}
 use Rattle.font_tables.specs.Fields.{glyph_count_of, num_glyphs, number_of_h_metrics}
 use Rattle.font_tables.specs.Outlines.{outline_of}
 use Rattle.font_tables.specs.Refusals.{is_bad_head, is_bad_hhea, is_bad_hmtx, is_bad_maxp}
@@ -18,6 +17,9 @@ use Rattle.font_glyph.specs.RecordMap.{HoldsComponents, Records, record_in}
 use Rattle.font_variations.specs.Gvar.{is_bad_variations}
 use Rattle.font_file.specs.Font.{map_of}
 use Rattle.font_theory.specs.Bytes.{cut_head, padded}
+use Rattle.font_theory.specs.SequenceTable.{is_bad_sequences}
+pub use Rattle.font_theory.specs.Slots.{is_made, is_never_copied, is_never_filled, is_never_in_layout}
+use Rattle.font_theory.specs.declared.kinds.TheConstants.{SEQUENCES}
 
 -- how many code points there are: 0 to 0x10FFFF
 unfoldable pub CODES : ℕ
@@ -25,7 +27,7 @@ CODES = points.CODES
 
 -- what an accepted font means to a cut
 pub record Font : Type 0 where
-  pub copied : ℕ → Option (List ℕ)  -- by slot: the kept tables but `cmap`, `glyf`, `head` and `loca`
+  pub copied : ℕ → Option (List ℕ)  -- by slot: the kept tables but `cmap`, `glyf`, `head` and `loca`, and sequences
   pub head : List ℕ  -- as a cut has it, with checksumAdjustment 0
   pub map : ℕ → ℕ  -- 0: not mapped
   pub outline : ℕ → List ℕ  -- [] past the last glyph
@@ -45,21 +47,6 @@ pub record Content : Type 0 where
 pub record Wanted : Type 0 where
   pub codes : ℕ → Bool  -- the codes
   pub glyphs : ℕ → Bool  -- the glyphs, by number
-
--- `cmap`, `glyf`, `head` and `loca`, which a cut makes anew, and what is no slot of a plain cut
-abbrev pub is_made : ℕ → Bool
-is_made slot =
-    nat_eq slot CMAP || nat_eq slot GLYF || nat_eq slot HEAD || nat_eq slot LOCA || nat_le SLOTS slot
-
--- what no layout cut copies: such a table, and what is no slot of a layout cut
-abbrev pub is_never_in_layout : ℕ → Bool
-is_never_in_layout slot =
-    nat_eq slot CMAP || nat_eq slot GLYF || nat_eq slot HEAD || nat_eq slot LOCA || nat_le FIRST_VARIATION slot
-
--- what no cut copies: such a table, and what is no slot of any cut
-abbrev pub is_never_copied : ℕ → Bool
-is_never_copied slot =
-    nat_eq slot CMAP || nat_eq slot GLYF || nat_eq slot HEAD || nat_eq slot LOCA || nat_le ALL_SLOTS slot
 
 -- the table in a slot, empty where there is none
 abbrev pub table_in_slot : (ℕ → Option (List ℕ)) → ℕ → List ℕ
@@ -148,8 +135,8 @@ pub record IsFont (F : Font) : Type 0 where
   pub mapped_below : (c : ℕ) → F.map c < glyph_count F.copied
   pub mapped_codes : (c : ℕ) → CODES ≤ c → F.map c ≡ 0
   pub records : (g : ℕ) → IsRecord (glyph_count F.copied) (F.outline g)
-  pub slots : (slot : ℕ) → is_never_copied slot ≡ true → F.copied slot ≡ None
-  pub unparted : (slot g : ℕ) → is_never_copied slot ≡ true → F.parts slot g ≡ []
+  pub slots : (slot : ℕ) → is_never_filled slot ≡ true → F.copied slot ≡ None
+  pub unparted : (slot g : ℕ) → is_never_filled slot ≡ true → F.parts slot g ≡ []
   pub there_below : (g : ℕ) → F.there g ≡ true → g < glyph_count F.copied
   pub head_form : cut_head F.head ≡ F.head
   pub head : is_bad_head F.head ≡ false
@@ -157,6 +144,7 @@ pub record IsFont (F : Font) : Type 0 where
   pub hhea : is_bad_hhea (table_in_slot F.copied HHEA) (glyph_count F.copied) ≡ false
   pub hmtx : is_bad_hmtx (table_in_slot F.copied HMTX) (metric_count F.copied) (glyph_count F.copied) ≡ false
   pub variations : is_bad_variations_in F.copied ≡ false
+  pub sequences : is_bad_sequences (table_in_slot F.copied SEQUENCES) (glyph_count F.copied) ≡ false
 
 -- the content of a file in cut form: a font is read of it, of which it is the content for all codes and
 -- all glyphs
@@ -168,9 +156,10 @@ pub record IsClosedContent (K : Content) : Type 0 where
 pub record IsWritable (K : Content) : Type 0 where
   pub mapped_below : (c : ℕ) → K.map c < glyph_count K.copied
   pub mapped_codes : (c : ℕ) → CODES ≤ c → K.map c ≡ 0
-  pub slots : (slot : ℕ) → is_never_copied slot ≡ true → K.copied slot ≡ None
+  pub slots : (slot : ℕ) → is_never_filled slot ≡ true → K.copied slot ≡ None
   pub head_form : cut_head K.head ≡ K.head
   pub head_size : 54 ≤ length K.head
+  pub sequences : is_bad_sequences (table_in_slot K.copied SEQUENCES) (glyph_count K.copied) ≡ false
   pub past : (g : ℕ) → glyph_count K.copied ≤ g → K.outline g ≡ None
 
 -- a content keeps .notdef, the glyph of each code, and each component of an outline that it keeps

@@ -11,6 +11,7 @@ use Rattle.font_theory.specs.Content.{Content, Font, IsFont, Wanted, content, ev
 use Rattle.font_theory.specs.File.{Writing, current_writing, file, writing_of}
 use Rattle.font_theory.specs.Agreement.{Agree, both}
 use Rattle.font_theory.specs.declared.Profile.TheVariants.{First}
+use Rattle.font_theory.specs.declared.kinds.TheConstants.{SEQUENCES}
 pub use Rattle.font_theory.specs.Content.{either_wanted}
 
 -- a reader and a writer of files
@@ -40,6 +41,8 @@ pub record IsFormat (R : Format) : Type 0 where
   pub refused_size :
       (X : List ℕ) (error : FontError) → R.fault X ≡ Some error → error ≢ Directory FileTooLarge →
       length X ≤ R.limit
+  pub same_sequences :
+      (X Y : List ℕ) → R.fault X ≡ None → R.fault Y ≡ None → (R.font X).copied SEQUENCES ≡ (R.font Y).copied SEQUENCES
   pub own_fit : (X : List ℕ) (W : Wanted) → R.fault X ≡ None → R.misfit (content (R.font X) W) ≡ None
   pub reads_back :
       (K : Content) (X : List ℕ) → Arises R K → Writes R K X → length X ≤ R.limit →

@@ -1,7 +1,6 @@
 -- The first difference of two contents, this project's own.
-use Rattle.std.specs.Prelude.{ℕ, nat_eq, nat_lt, not, Bool, false, ◌&&◌, ◌||◌, List, [], ◌∷◌, find, if◌then◌else◌}
-use Rattle.std.specs.Prelude.{Option}
-use Rattle.std.specs.Prelude.{Some}
+use Rattle.std.specs.Prelude.{ℕ, ◌+◌, nat_eq, nat_lt, not, Bool, false, ◌&&◌, ◌||◌, List, [], ◌∷◌, find, if◌then◌else◌}
+use Rattle.std.specs.Prelude.{Option, Some}
 use Rattle.std.specs.List.{range_with_len}
 use Rattle.std.specs.Option.{option_eq, option_map}
 use Rattle.std.specs.Str.{bytes_eq}
@@ -12,6 +11,7 @@ use Rattle.font_glyph.specs.Reach.{any_below}
 use Rattle.font_theory.specs.Content.{CODES, Content, glyph_count}
 use Rattle.font_theory.specs.declared.Difference.{Difference}
 use Rattle.font_theory.specs.declared.Difference.TheVariants.{AtCode, AtGlyph, AtTable}
+use Rattle.font_theory.specs.declared.kinds.TheConstants.{SEQUENCES}
 
 -- a copied table that one lacks or that differs, or `head`
 unfoldable pub is_different_table : Content → Content → ℕ → Bool
@@ -25,7 +25,7 @@ is_different_code K L c = nat_lt 0 (K.map c) && (nat_lt 0 (L.map c) && not (nat_
 
 -- how many slots may have parts
 unfoldable pub PARTED : ℕ
-PARTED = ALL_SLOTS
+PARTED = SEQUENCES + 1
 
 -- two contents have another part of a glyph
 unfoldable pub has_other_part : Content → Content → ℕ → Bool

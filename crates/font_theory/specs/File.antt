@@ -1,4 +1,5 @@
--- The one file of a content (OpenType 1.9, Organization of an OpenType Font; cmap, Format 12; loca; glyf).
+-- The one file of a content (OpenType 1.9, Organization of an OpenType Font; cmap, Encoding records and encodings,
+-- Format 12, Format 14; loca; glyf).
 use Rattle.std.specs.Prelude.{◌≡◌, ℕ, ◌+◌, ◌*◌, nat_eq, List, [], ◌∷◌, ◌++◌, length, map, replicate, if◌then◌else◌}
 use Rattle.std.specs.Prelude.{Option, None, Some, sum}
 use Rattle.std.specs.List.{concat, flat_map, range_with_len}
@@ -17,9 +18,11 @@ use Rattle.codes.specs.Runs.{groups_from, spelled}
 use Rattle.codes.specs.declared.runs.Run.{Run}
 use Rattle.font_glyph.specs.RecordMap.{record_in}
 use Rattle.font_theory.specs.Bytes.{bytes16, bytes32, padded, with_adjustment}
-use Rattle.font_theory.specs.Content.{Content, glyph_count}
+use Rattle.font_theory.specs.Content.{Content, glyph_count, table_in_slot}
 use Rattle.font_theory.specs.declared.Profile.{Profile}
 use Rattle.font_theory.specs.declared.Profile.TheVariants.{First, Second}
+use Rattle.font_theory.specs.declared.kinds.TheConstants.{SEQUENCES}
+use Rattle.variation_sequences.specs.Encoding.{subtable_of}
 
 -- the groups that spell the map of a content
 unfoldable pub groups_of_content : Content → List Run
@@ -90,9 +93,27 @@ current_writing = writing_of current_profile
 unfoldable pub cmap_front : Writing → ℕ → List ℕ
 cmap_front writing n = flat_map bytes32 (writing.front n)
 
--- `cmap`
+-- `cmap` without variation sequences
 unfoldable pub cmap_bytes : Writing → List Run → List ℕ
 cmap_bytes writing runs = cmap_front writing (length runs) ++ flat_map group_bytes runs
+
+-- `cmap` with them up to its n groups, word by word, in any form: version 0 and three records, 0/4 and 3/10 of one
+-- subtable right after them, 0/5 of the bytes right after its groups
+unfoldable pub sequence_front : ℕ → List ℕ
+sequence_front n =
+    0x00000003 ∷ 0x00000004 ∷ 28 ∷ 0x00000005 ∷ (44 + 12 * n) ∷ 0x0003000A ∷ 28 ∷ subtable_front n
+
+-- `cmap` of three records, with bytes after its groups
+unfoldable pub cmap_of_three : List Run → List ℕ → List ℕ
+cmap_of_three runs t = flat_map bytes32 (sequence_front (length runs)) ++ flat_map group_bytes runs ++ t
+
+-- `cmap` with a table of variation sequences, which has no byte where there are none
+unfoldable pub cmap_with_sequences : Writing → List Run → List ℕ → List ℕ
+cmap_with_sequences writing runs t = if nat_eq (length t) 0 then cmap_bytes writing runs else cmap_of_three runs t
+
+-- the `cmap` of a content
+abbrev pub cmap_of_content : Writing → Content → List ℕ
+cmap_of_content writing K = cmap_with_sequences writing (groups_of_content K) (table_in_slot K.copied SEQUENCES)
 
 -- what stands in `glyf` after outlines
 abbrev pub behind : Writing → List ℕ → List ℕ
@@ -102,12 +123,13 @@ behind writing outlines = replicate (writing.zeros (length outlines)) 0
 abbrev pub glyf_bytes : Writing → List (List ℕ) → List ℕ
 glyf_bytes writing outlines = concat outlines ++ behind writing (concat outlines)
 
--- what is asked of a form: its `cmap` is accepted, and maps by its groups
+-- what is asked of a form: its `cmap` is accepted, maps by its groups, and has no variation sequences
 pub record IsWriting (writing : Writing) : Type 0 where
   pub accepted : (runs : List Run) → map_fault (cmap_bytes writing runs) ≡ None
   pub maps :
       (runs : List Run) (glyphs : ℕ) →
       mapping_of (cmap_bytes writing runs) glyphs ≡ clipped glyphs (spelled runs)
+  pub unsequenced : (runs : List Run) → subtable_of (cmap_bytes writing runs) ≡ None
 
 -- a table that is written
 pub record Table : Type 0 where
@@ -118,7 +140,7 @@ pub record Table : Type 0 where
 -- the bytes of the table in a slot, with this `head`
 unfoldable pub bytes_in_slot : Writing → Content → List ℕ → ℕ → Option (List ℕ)
 bytes_in_slot writing K head slot =
-    if nat_eq slot CMAP then Some (cmap_bytes writing (groups_of_content K))
+    if nat_eq slot CMAP then Some (cmap_of_content writing K)
     else if nat_eq slot GLYF then Some (glyf_bytes writing (outlines_of K))
     else if nat_eq slot HEAD then Some head
     else if nat_eq slot LOCA then Some (loca_bytes (outlines_of K))
@@ -204,5 +226,4 @@ size_with K cmap glyf =
 -- that with the `cmap` and the `glyf` of a form
 unfoldable pub size_of : Writing → Content → ℕ
 size_of writing K =
-    size_with K (4 * length (writing.front (length (groups_of_content K))) + 12 * length (groups_of_content K))
-    (length (padded (glyf_bytes writing (outlines_of K))))
+    size_with K (length (padded (cmap_of_content writing K))) (length (padded (glyf_bytes writing (outlines_of K))))

@@ -1,7 +1,6 @@
 -- The kinds of cuts, this project's own: a kind is a row of settings, which say how its files are read and written.
-use Rattle.std.specs.Prelude.{◌≡◌, ◌≢◌, ℕ, ◌<◌, ◌≤◌, nat_eq, nat_lt, ◌&&◌, ◌||◌, Bool, true, false, List, [], ◌∷◌}
-use Rattle.std.specs.Prelude.{if◌then◌else◌, length, Option, None, Some}
-use Rattle.std.specs.Prelude.{is_some}
+use Rattle.std.specs.Prelude.{◌≡◌, ◌≢◌, ℕ, ◌<◌, ◌≤◌, nat_eq, nat_lt, ◌&&◌, ◌||◌, Bool, true, false, ◌⊎◌, List, [], ◌∷◌}
+use Rattle.std.specs.Prelude.{if◌then◌else◌, length, Option, None, Some, is_some}
 use Rattle.std.specs.Option.{option_map, option_or}
 use Rattle.sfnt_bytes.specs.Directory.{is_layout_slot, slot_tag, table_of}
 use Rattle.sfnt_bytes.specs.Lines.{first_of_lines, when}
@@ -13,22 +12,27 @@ use Rattle.sfnt_bytes.specs.declared.tag.TheConstants.{LAYOUT_AND_VARIATIONS, PO
 use Rattle.codes.specs.CharacterMap.{AreCompatible, united}
 use Rattle.font_glyph.specs.Reach.{any_below}
 use Rattle.font_glyph.specs.RecordMap.{union_of}
-use Rattle.font_file.specs.Font.{font_fault}
+use Rattle.font_tables.specs.Fields.{glyph_count_of}
+use Rattle.font_file.specs.Font.{cmap_of, font_fault, map_of}
 use Rattle.font_file.specs.declared.font_error.FontError.{FontError}
 use Rattle.font_file.specs.declared.font_error.FontError.TheVariants.{BadVariations, Directory}
 use Rattle.font_theory.specs.Bytes.{padded}
 use Rattle.font_theory.specs.Content.{Content, Font, Wanted, content, everything, glyph_count, is_bad_variations_in}
-use Rattle.font_theory.specs.Content.{is_kept, is_made, is_never_copied, is_never_in_layout, plain_font, table_in_slot}
+use Rattle.font_theory.specs.Content.{is_kept, is_made, is_never_copied, is_never_filled, is_never_in_layout}
+use Rattle.font_theory.specs.Content.{plain_font, table_in_slot}
 use Rattle.font_theory.specs.Cut.{Format, IsCut, IsFormat, content_of_all}
+use Rattle.font_theory.specs.Difference.{PARTED}
 use Rattle.font_theory.specs.File.{current_profile, current_writing, file, writing_of}
 use Rattle.font_theory.specs.Links.{fixed}
-use Rattle.font_theory.specs.Parted.{either_bytes, gvar_with, metrics, nameless, variation_data, variations}
-use Rattle.font_theory.specs.Parting.{Partition, Tables, context, divided, frames, parts_of, undivided}
-use Rattle.font_theory.specs.Parting.{IsPartition, misfit_by, undivided_content}
+use Rattle.font_theory.specs.Parted.{either_bytes, gvar_with, metrics, nameless, sequences, variation_data, variations}
+use Rattle.font_theory.specs.Parting.{Partition, Tables, context, divided, frames, parts_of, undivided, IsPartition}
+use Rattle.font_theory.specs.Parting.{misfit_by, undivided_content}
 use Rattle.font_theory.specs.declared.Profile.{Profile}
 use Rattle.font_theory.specs.declared.Profile.TheVariants.{First}
+use Rattle.font_theory.specs.SequenceTable.{pairs_of_parts, sequence_table, sequences_of_font}
 use Rattle.font_theory.specs.declared.kinds.Kind.{Kind}
 use Rattle.font_theory.specs.declared.kinds.Kind.TheVariants.{Full, Layout, Lean, Variable}
+use Rattle.font_theory.specs.declared.kinds.TheConstants.{SEQUENCES}
 
 -- how a table is read: not at all, as it is, or without what varies
 pub data Reading : Type 0 where
@@ -50,14 +54,23 @@ pub record Settings : Type 0 where
   pub old : Profile  -- what was written before, and is still read as a cut
   pub by_number : Bool  -- glyphs may be wanted by number, and not by their codes alone
 
+-- the variation sequences of a file as a table, which has no byte where there are none
+unfoldable pub sequences_of_file : List ℕ → List ℕ
+sequences_of_file file = sequences_of_font (cmap_of file) (map_of file) (glyph_count_of file)
+
+-- what a file has in a slot: the table of its tag, or past all tags the variation sequences
+abbrev pub table_in_file : List ℕ → ℕ → Option (List ℕ)
+table_in_file file slot =
+    if nat_eq slot SEQUENCES then Some (sequences_of_file file) else table_of file (slot_tag slot)
+
 -- the tables that a file has for cuts with these settings
 abbrev pub tables_by : Settings → List ℕ → Tables
-tables_by s file slot = read_by (s.reading slot) slot (table_of file (slot_tag slot))
+tables_by s file slot = read_by (s.reading slot) slot (table_in_file file slot)
 
 -- a glyph has an outline, or a part that is not empty
 unfoldable pub has_record : List ℕ → (ℕ → List ℕ) → Bool
 has_record outline parts =
-    nat_lt 0 (length outline) || any_below (λ slot. nat_lt 0 (length (parts slot))) ALL_SLOTS
+    nat_lt 0 (length outline) || any_below (λ slot. nat_lt 0 (length (parts slot))) PARTED
 
 -- the glyphs that may be wanted by number: those that have a record
 unfoldable pub there_by : Settings → Tables → (ℕ → List ℕ) → ℕ → Bool
@@ -101,8 +114,10 @@ format_by s = record {
 -- what is asked of settings
 pub record AreSettings (s : Settings) : Type 0 where
   pub plain : (slot : ℕ) → is_made slot ≡ false → s.reading slot ≡ as_it_is
-  pub never : (slot : ℕ) → is_never_copied slot ≡ true → s.reading slot ≡ absent
+  pub never : (slot : ℕ) → is_never_filled slot ≡ true → s.reading slot ≡ absent
   pub whole : (slot : ℕ) → s.reading slot ≡ unvarying → s.partition slot ≡ undivided
+  pub sequences :
+      (s.reading SEQUENCES ≡ absent) ⊎ ((s.reading SEQUENCES ≡ as_it_is) × (s.partition SEQUENCES ≡ sequences))
   pub partition : IsPartition s.partition
 
 -- the tables of a plain cut alone
@@ -156,12 +171,28 @@ variable_settings = record {
   by_number = true;
 }
 
+-- settings that keep variation sequences too, those of the kept glyphs (OpenType 1.9, cmap, Format 14)
+abbrev pub with_sequences : Settings → Settings
+with_sequences s = record {
+  reading = λ slot. if nat_eq slot SEQUENCES then as_it_is else s.reading slot;
+  partition = λ slot. if nat_eq slot SEQUENCES then sequences else s.partition slot;
+  tags = s.tags;
+  old = s.old;
+  by_number = s.by_number;
+}
+
 -- the settings of a kind
 abbrev pub settings : Kind → Settings
 settings Full = full_settings
 settings Lean = lean_settings
-settings Layout = layout_settings
-settings Variable = variable_settings
+settings Layout = with_sequences layout_settings
+settings Variable = with_sequences variable_settings
+
+-- whether cuts of a kind keep variation sequences
+abbrev pub keeps_sequences : Kind → Bool
+keeps_sequences Full = false
+keeps_sequences Lean = false
+keeps_sequences _ = true
 
 -- whether cuts of a kind divide tables
 abbrev pub divides_tables : Kind → Bool
@@ -234,13 +265,18 @@ pub record IsUnionBy (p : Partition) (K L U : Content) : Type 0 where
       ((p slot).frame (context K.copied) t)
       (λ g. if is_some (K.outline g) then parts_of p K.copied slot g else parts_of p L.copied slot g)) (K.copied slot)
 
+-- the pairs of a glyph among the variation sequences of tables
+abbrev pub pairs_of_glyph : Tables → ℕ → List ℕ
+pairs_of_glyph copied = parts_of (λ _. sequences) copied SEQUENCES
+
 -- the same in other words: `hmtx` and `vmtx` of both byte by byte, where one has 0 the other's, a `gvar` with the data
--- of both, and the other tables of either
+-- of both, the variation sequences of both, and the other tables of either
 pub record IsWrittenUnion (K L U : Content) : Type 0 where
   pub head : U.head ≡ K.head
   pub map : U.map ≡ united K.map L.map
   pub outline : U.outline ≡ union_of K.outline L.outline
-  pub others : (slot : ℕ) → slot ≢ GVAR → slot ≢ HMTX → slot ≢ VMTX → U.copied slot ≡ K.copied slot
+  pub others :
+      (slot : ℕ) → slot ≢ GVAR → slot ≢ HMTX → slot ≢ VMTX → slot ≢ SEQUENCES → U.copied slot ≡ K.copied slot
   pub hmtx : U.copied HMTX ≡ option_map (λ t. either_bytes t (table_in_slot L.copied HMTX)) (K.copied HMTX)
   pub vmtx : U.copied VMTX ≡ option_map (λ t. either_bytes t (table_in_slot L.copied VMTX)) (K.copied VMTX)
   pub gvar :
@@ -249,6 +285,11 @@ pub record IsWrittenUnion (K L U : Content) : Type 0 where
       (λ g. if is_some (K.outline g) then variation_data K.copied g else variation_data L.copied g)
       (glyph_count K.copied))
       (K.copied GVAR)
+  pub sequences :
+      U.copied SEQUENCES ≡ option_map
+      (λ _. sequence_table (pairs_of_parts (glyph_count K.copied)
+      (λ g. if is_some (K.outline g) then pairs_of_glyph K.copied g else pairs_of_glyph L.copied g)))
+      (K.copied SEQUENCES)
 
 -- the variation data of the kept glyphs, and none of the others
 abbrev pub kept_data : Font → Wanted → ℕ → List ℕ

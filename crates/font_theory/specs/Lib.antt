@@ -7,7 +7,10 @@ pub mod Difference
 pub mod File
 pub mod Kinds
 pub mod Links
+pub mod OrderedPairs
 pub mod Parted
 pub mod Parting
+pub mod SequenceTable
+pub mod Slots
 pub mod Tree
 pub mod WorkedFiles

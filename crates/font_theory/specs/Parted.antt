@@ -1,6 +1,6 @@
--- The tables that are divided (OpenType 1.9, hmtx; vmtx; post; gvar).
-use Rattle.std.specs.Prelude.{ℕ, ◌+◌, ◌-◌, ◌*◌, ◌/◌, ◌%◌, bit_or, nat_eq, nat_le, nat_lt, not, Bool, ◌&&◌, ◌||◌}
-use Rattle.std.specs.Prelude.{true, List, [], ◌++◌, drop, length, map, replicate, slice_index, take, if◌then◌else◌}
+-- The tables that are divided (OpenType 1.9, hmtx; vmtx; post; gvar; cmap, Format 14: Unicode variation sequences).
+use Rattle.std.specs.Prelude.{ℕ, ◌+◌, ◌-◌, ◌*◌, ◌/◌, ◌%◌, bit_or, nat_eq, nat_le, nat_lt, not, Bool, ◌&&◌, ◌||◌, true}
+use Rattle.std.specs.Prelude.{List, [], ◌++◌, drop, length, map, replicate, slice_index, take, if◌then◌else◌}
 use Rattle.std.specs.List.{range_with_len}
 use Rattle.std.specs.Str.{bytes_eq}
 use Rattle.sfnt_bytes.specs.declared.tag.TheConstants.{GVAR, HHEA, HMTX, VHEA, VMTX}
@@ -8,9 +8,11 @@ use Rattle.font_tables.specs.Fields.{number_of_h_metrics}
 use Rattle.font_tables.specs.Refusals.{is_bad_hhea, is_bad_hmtx}
 use Rattle.font_variations.specs.Gvar.{data_of, front_of, shared_tuples_of}
 use Rattle.font_variations.specs.MadeGvar.{gvar_bytes}
+use Rattle.variation_sequences.specs.Pairs.{part_of}
 use Rattle.font_theory.specs.Bytes.{bytes32}
 use Rattle.font_theory.specs.Content.{glyph_count, table_in_slot}
 use Rattle.font_theory.specs.Parting.{Parting, Tables}
+use Rattle.font_theory.specs.SequenceTable.{have_room, pairs_of_parts, sequence_table, sequences_in}
 
 -- the number of pairs in a table of metrics (OpenType 1.9, hhea, numberOfHMetrics; vhea,
 -- numOfLongVerMetrics), or 0 where the header does not describe the table
@@ -93,6 +95,16 @@ variations = record {
   part = λ _ t g. data_of t g;
   whole = λ c t parts. gvar_with parts (glyph_count c) t;
   fits = λ _ _ _. true;
+}
+
+-- variation sequences: nothing is of no glyph; the pairs of a glyph; and those of all glyphs in order, of which no two
+-- have one selector and code
+unfoldable pub sequences : Parting
+sequences = record {
+  frame = λ _ _. [];
+  part = λ c t g. sequence_table (part_of (sequences_in (glyph_count c) t) g);
+  whole = λ c _ parts. sequence_table (pairs_of_parts (glyph_count c) parts);
+  fits = λ c _ parts. have_room (pairs_of_parts (glyph_count c) parts);
 }
 
 -- the number of pairs in a table of metrics, by slots

@@ -1,13 +1,16 @@
 -- Divided tables, this project's own: a table consists of a frame, which is of no single glyph, and of a part of each
 -- glyph. What is of no glyph is a table whose frame is the table itself.
-use Rattle.std.specs.Prelude.{◌≡◌, ℕ, ◌<◌, nat_eq, nat_lt, not, Bool, true, false, ◌||◌, ◌⊎◌, List, []}
+use Rattle.std.specs.Prelude.{◌≡◌, ℕ, ◌<◌, nat_eq, nat_lt, not, Bool, true, false, ◌||◌, ◌⊎◌, List, [], ◌∷◌}
 use Rattle.std.specs.Prelude.{if◌then◌else◌, Option, None}
 use Rattle.std.specs.Option.{option_map, option_map_or}
+use Rattle.sfnt_bytes.specs.Lines.{first_of_lines, when}
 use Rattle.sfnt_bytes.specs.declared.tag.TheConstants.{FVAR, GVAR, HMTX, POST, VMTX}
 use Rattle.font_tables.specs.Refusals.{is_bad_hmtx}
 use Rattle.font_variations.specs.Gvar.{is_bad_variations}
 use Rattle.font_theory.specs.Content.{Content, Font, glyph_count, metric_count}
 use Rattle.font_theory.specs.Difference.{first_slot}
+use Rattle.font_theory.specs.SequenceTable.{is_bad_sequences}
+use Rattle.font_theory.specs.declared.kinds.TheConstants.{SEQUENCES}
 
 -- tables by slot
 abbrev pub Tables : Type 0
@@ -32,7 +35,7 @@ IsPart D c frame g b = (b ≡ []) ⊎ ((t : List ℕ) × (D.frame c t ≡ frame)
 pub record IsParting (bad : Tables → List ℕ → Bool) (D : Parting) : Type 0 where
   pub frame_good : (c : Tables) (t : List ℕ) → bad c t ≡ false → bad c (D.frame c t) ≡ false
   pub whole_good :
-      (c : Tables) (frame : List ℕ) (parts : ℕ → List ℕ) → bad c frame ≡ false →
+      (c : Tables) (frame : List ℕ) (parts : ℕ → List ℕ) → bad c frame ≡ false → D.fits c frame parts ≡ true →
       bad c (D.whole c frame parts) ≡ false
   pub frame_again :
       (c : Tables) (t : List ℕ) → bad c t ≡ false → D.frame c (D.frame c t) ≡ D.frame c t
@@ -49,7 +52,8 @@ pub record IsParting (bad : Tables → List ℕ → Bool) (D : Parting) : Type 0
 
 -- the slots of the tables that some cuts divide
 abbrev pub may_divide : ℕ → Bool
-may_divide slot = nat_eq slot GVAR || nat_eq slot HMTX || nat_eq slot POST || nat_eq slot VMTX
+may_divide slot =
+    nat_eq slot GVAR || nat_eq slot HMTX || nat_eq slot POST || nat_eq slot VMTX || nat_eq slot SEQUENCES
 
 -- the tables that a divided table may be read with: the others
 unfoldable pub context : Tables → Tables
@@ -60,6 +64,7 @@ abbrev pub is_bad_at : ℕ → Tables → List ℕ → Bool
 is_bad_at slot c t =
     if nat_eq slot GVAR then is_bad_variations t (c FVAR) (glyph_count c)
     else if nat_eq slot HMTX then is_bad_hmtx t (metric_count c) (glyph_count c)
+    else if nat_eq slot SEQUENCES then is_bad_sequences t (glyph_count c)
     else false
 
 -- how the table of each slot is divided
@@ -90,9 +95,12 @@ unfoldable pub fits_at : Partition → Tables → (ℕ → ℕ → List ℕ) →
 fits_at p copied parts slot =
     option_map_or (λ frame. (p slot).fits (context copied) frame (parts slot)) (copied slot) true
 
--- the least table, by tag, in which the parts of a divided content have no room
+-- the least table, by tag, in which the parts of a divided content have no room, or after all tags the sequences
 unfoldable pub misfit_by : Partition → Content → Option ℕ
-misfit_by p K = first_slot (λ slot. not (fits_at p K.copied K.parts slot))
+misfit_by p K = first_of_lines
+    (first_slot (λ slot. not (fits_at p K.copied K.parts slot))
+    ∷ when (not (fits_at p K.copied K.parts SEQUENCES)) SEQUENCES
+    ∷ [])
 
 -- parts have room in each table
 abbrev pub AlwaysFits : Partition → Type 0

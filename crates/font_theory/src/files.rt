@@ -6,14 +6,17 @@ ghost use Rattle.sfnt_bytes.specs.Lines.{said_lines};
 ghost use Rattle.sfnt_bytes.specs.declared.tag.TheConstants.{ALL_SLOTS, SLOTS};
 ghost use Rattle.sfnt_bytes.specs.Findings.{findings_of};
 ghost use Rattle.sfnt_bytes.specs.declared.directory.TheConstants.{MAX_FILE};
+ghost use Rattle.codes.specs.declared.runs.Run.{Run};
+ghost use Rattle.font_map.specs.Cmap.{chosen_of, subtable_at};
 ghost use Rattle.font_file.specs.Font.{font_fault};
 ghost use Rattle.font_theory.specs.Bytes.{padded};
-ghost use Rattle.font_theory.specs.Content.{Content, IsClosedContent, IsPlain, IsWritable, plain_font, of_codes, read_back};
+ghost use Rattle.font_theory.specs.Content.{Content, IsClosedContent, IsPlain, IsWritable, plain_font, of_codes, read_back, table_in_slot};
 ghost use Rattle.sfnt_bytes.specs.declared.base6.TheConstants.{BASE6};
 ghost use Rattle.font_theory.specs.Cut.{Arises, IsCurrent, IsFormat, IsOld, Writes, cut, format_with, our_format};
-ghost use Rattle.font_theory.specs.File.{Writing, IsWriting, file, writing_of, glyf_bytes, groups_of_content, outlines_of, size_of, size_with, table_in, tables_from};
+ghost use Rattle.font_theory.specs.File.{Writing, IsWriting, cmap_of_three, file, writing_of, glyf_bytes, groups_of_content, outlines_of, size_of, size_with, table_in, tables_from};
 ghost use Rattle.font_theory.specs.declared.Profile.{Profile};
 ghost use Rattle.font_theory.specs.declared.Profile.TheVariants.{First, Second};
+ghost use Rattle.font_theory.specs.declared.kinds.TheConstants.{SEQUENCES};
 ghost use Rattle.font_theory.specs.WorkedFiles.{aacute_file, nothing_file, nothing_second_file};
 
 /// What is read of the file of a content is the content.
@@ -42,19 +45,27 @@ pub fn outlines_size()
         (map length (outlines_of K)) }
 {}
 
-/// How many bytes a file in the first profile has, by how many groups spell its map and how many bytes
-/// its outlines have.
+/// How many bytes a file in the first profile has without variation sequences, by how many groups spell its map and how
+/// many bytes its outlines have.
 pub fn size_in_first_profile()
-    ensures { (K : Content) → IsClosedContent K
+    ensures { (K : Content) → IsClosedContent K → table_in_slot K.copied SEQUENCES ≡ []
         → size_of (writing_of First) K ≡ size_with K (28 + 12 * length (groups_of_content K))
         (sum (map length (outlines_of K))) }
 {}
 
 /// The same in the second profile.
 pub fn size_in_second_profile()
-    ensures { (K : Content) → IsClosedContent K
+    ensures { (K : Content) → IsClosedContent K → table_in_slot K.copied SEQUENCES ≡ []
         → size_of (writing_of Second) K ≡ size_with K (36 + 12 * length (groups_of_content K))
         (max (sum (map length (outlines_of K))) 4) }
+{}
+
+/// The same in any form with variation sequences, by how many bytes their table has too.
+pub fn size_with_sequences()
+    ensures { (writing : Writing) (K : Content) → table_in_slot K.copied SEQUENCES ≢ []
+        → size_of writing K ≡ size_with K
+        (44 + 12 * length (groups_of_content K) + length (padded (table_in_slot K.copied SEQUENCES)))
+        (length (padded (glyf_bytes writing (outlines_of K)))) }
 {}
 
 /// The file of a closed content is accepted, where it is not too large.
@@ -74,9 +85,17 @@ pub fn profiles_are_writings()
     ensures { (profile : Profile) → IsWriting (writing_of profile) }
 {}
 
-/// No file is written in both forms.
+/// With variation sequences the map of a `cmap` is that of the third record, 3/10, of format 12. The first record leads to
+/// the same subtable.
+pub fn third_is_chosen()
+    ensures { (runs : List Run) (t : List ℕ) → (chosen_of (cmap_of_three runs t) ≡ (3, 10, 12))
+        × (subtable_at (cmap_of_three runs t) 0 ≡ subtable_at (cmap_of_three runs t) 2) }
+{}
+
+/// No file without variation sequences is written in both forms: with them the `cmap` of both is one.
 pub fn writings_are_apart()
-    ensures { (K L : Content) → file (writing_of First) K ≢ file (writing_of Second) L }
+    ensures { (K L : Content) → table_in_slot K.copied SEQUENCES ≡ [] →
+        file (writing_of First) K ≢ file (writing_of Second) L }
 {}
 
 /// No file is both current and an old cut.
@@ -84,9 +103,10 @@ pub fn no_cut_is_both()
     ensures { (X : List ℕ) → IsCurrent our_format X → IsOld our_format X → ⊥ }
 {}
 
-/// The two files of a content differ in size.
+/// The two files of a content without variation sequences differ in size.
 pub fn writing_sizes_are_apart()
-    ensures { (K : Content) → size_of (writing_of First) K ≢ size_of (writing_of Second) K }
+    ensures { (K : Content) → table_in_slot K.copied SEQUENCES ≡ [] →
+        size_of (writing_of First) K ≢ size_of (writing_of Second) K }
 {}
 
 /// In the second form `glyf` has four bytes or the outlines alone.

@@ -8,6 +8,7 @@ ghost use Rattle.font_theory.specs.Content.{Content, Font, IsClosedContent, IsFo
 ghost use Rattle.font_theory.specs.Cut.{CanJoin, Format, IsCurrent, IsCut, IsFormat, Under, Writes, cut, is_cut, joined, misfit_of, renewed, content_of_all};
 ghost use Rattle.font_theory.specs.Difference.{difference};
 ghost use Rattle.font_theory.specs.Agreement.{Agree, both};
+ghost use Rattle.font_theory.specs.declared.kinds.TheConstants.{SEQUENCES};
 
 /// Two contents of a font agree, and their union is its content for what either wants.
 pub fn union_of_cuts()
@@ -21,9 +22,11 @@ pub fn union_is_closed()
         IsClosedContent (both K L) }
 {}
 
-/// There is no first difference exactly where contents agree.
+/// There is no first difference exactly where contents agree. Both have the same in the slot of variation sequences, as
+/// all contents of a format have.
 pub fn no_difference()
-    ensures { (K L : Content) → IsClosedContent K → IsClosedContent L → difference K L ≡ None ↔ Agree K L }
+    ensures { (K L : Content) → IsClosedContent K → IsClosedContent L → K.copied SEQUENCES ≡ L.copied SEQUENCES
+        → difference K L ≡ None ↔ Agree K L }
 {}
 
 /// A join is current, above both files, and below each file that is above both.

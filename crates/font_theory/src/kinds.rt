@@ -14,7 +14,8 @@ ghost use Rattle.font_tables.specs.Tables.{named};
 ghost use Rattle.codes.specs.CharacterMap.{restricted};
 ghost use Rattle.font_glyph.specs.Reach.{Reach};
 ghost use Rattle.font_variations.specs.Gvar.{front_of, shared_tuples_of};
-ghost use Rattle.font_file.specs.Font.{font_fault, map_of};
+ghost use Rattle.variation_sequences.specs.Pairs.{part_of, sequence_pairs};
+ghost use Rattle.font_file.specs.Font.{cmap_of, font_fault, map_of};
 ghost use Rattle.font_file.specs.declared.font_error.FontError.{FontError};
 ghost use Rattle.font_file.specs.declared.font_error.FontError.TheVariants.{Directory};
 ghost use Rattle.font_theory.specs.Agreement.{Agree, both};
@@ -22,12 +23,18 @@ ghost use Rattle.font_theory.specs.Bytes.{padded};
 ghost use Rattle.font_theory.specs.Content.{Content, Font, IsClosedContent, IsFont, Wanted, content, either_wanted, everything, plain_font, glyph_count, is_kept, is_never_copied, is_root, is_seed, of_codes, read_back, wanted_within, table_in_slot};
 ghost use Rattle.font_theory.specs.Cut.{Arises, CanJoin, IsCurrent, IsCut, IsFormat, Under, Writes, content_of_all, cut, is_cut, joined, misfit_of, our_format, either_wanted};
 ghost use Rattle.font_theory.specs.Difference.{are_different, difference, has_other_part, is_different_glyph};
-ghost use Rattle.font_theory.specs.Kinds.{AgreeBy, AreSettings, HasNothingVarying, IsKind, IsUnionBy, IsWrittenUnion, Settings, by_metrics, by_variations, fault_by, fault_of, font_of, font_by, format_by, format_of, has_record, kept_data, partition_of, reduced, settings, spelled_by, tables_of, without_layout, divides_tables, gsub_bytes};
+ghost use Rattle.font_theory.specs.Kinds.{AgreeBy, AreSettings, HasNothingVarying, IsKind, IsUnionBy, IsWrittenUnion, Settings, by_metrics, by_variations, fault_by, fault_of, font_of, font_by, format_by, format_of, has_record, kept_data, partition_of, reduced, settings, spelled_by, tables_by, tables_of, without_layout, divides_tables, gsub_bytes, keeps_sequences, sequences_of_file, with_sequences};
+ghost use Rattle.font_theory.specs.Kinds.Reading.{absent};
 ghost use Rattle.font_theory.specs.Links.{links};
 ghost use Rattle.font_theory.specs.Parted.{cleared, gvar_with, metrics_at, pairs_in, thin_post, variation_data};
 ghost use Rattle.font_theory.specs.Parting.{AlwaysFits, Tables, divided, parts_of, undivided, undivided_content};
+ghost use Rattle.font_theory.specs.SequenceTable.{sequence_table};
 ghost use Rattle.font_theory.specs.Tree.{IsSmall, JoinTree, Overflows, Value, cuts, union_in};
 ghost use Rattle.font_theory.specs.declared.kinds.Kind.TheVariants.{Full, Layout, Lean, Variable};
+ghost use Rattle.font_theory.specs.declared.kinds.TheConstants.{SEQUENCES as SEQUENCE_SLOT};
+
+/// The slot of variation sequences, after those of all tables: they stand in `cmap`, and are no table of their own.
+pub const SEQUENCES: usize = 29;
 
 /// A kind of cuts.
 #[derive(Clone, Copy, Debug, PartialEq, Eq)]
@@ -50,6 +57,16 @@ impl Kind {
         match self {
             Kind::Full => false,
             Kind::Lean | Kind::Layout | Kind::Variable => true,
+        }
+    }
+
+    /// Tells whether cuts of the kind keep variation sequences.
+    pub fn keeps_sequences(self) -> bool
+        ensures { result ≡ keeps_sequences self }
+    {
+        match self {
+            Kind::Full | Kind::Lean => false,
+            Kind::Layout | Kind::Variable => true,
         }
     }
 }
@@ -82,6 +99,29 @@ pub fn settings_are_kinds()
 pub fn kinds_are_kinds()
     ensures { (kind : Kind) → AreSettings (settings kind)
         × IsKind (format_of kind) (fault_of kind) (font_of kind) (spelled_by kind) }
+{}
+
+/// So are any with variation sequences: of the files of settings that keep them too the same laws hold.
+pub fn sequences_can_be_kept()
+    ensures { (s : Settings) → AreSettings s → AreSettings (with_sequences s)
+        × IsKind (format_by (with_sequences s)) (fault_by (with_sequences s)) (font_by (with_sequences s))
+        (undivided_content (with_sequences s).partition) }
+{}
+
+/// There the part of a glyph is those pairs of selector and code of the file that have it.
+pub fn kept_sequences_are()
+    ensures { (s : Settings) → AreSettings s → (file : List ℕ) → fault_by (with_sequences s) file ≡ None → (g : ℕ)
+        → g < glyph_count_of file
+        → parts_of (with_sequences s).partition (tables_by (with_sequences s) file) SEQUENCE_SLOT g
+        ≡ sequence_table (part_of (sequence_pairs (cmap_of file) (map_of file) (glyph_count_of file)) g) }
+{}
+
+/// A font without variation sequences is refused, or has its cuts, as where none are kept, byte for byte.
+pub fn cuts_without_sequences_are()
+    ensures { (s : Settings) → AreSettings s → s.reading SEQUENCE_SLOT ≡ absent → (file : List ℕ)
+        → sequences_of_file file ≡ [] → (fault_by (with_sequences s) file ≡ fault_by s file)
+        × (fault_by s file ≡ None → (wanted : Wanted) →
+        cut (format_by (with_sequences s)) file wanted ≡ cut (format_by s) file wanted) }
 {}
 
 /// Full cuts are read and written as a plain reader reads and as this program writes, and lean ones are read of what a
@@ -304,10 +344,15 @@ pub fn refusals_of_kind_are_true()
         misfit_of (format_of kind) X Y ≢ None → Under (format_of kind) X F → ¬ Under (format_of kind) Y F) }
 {}
 
-/// Each table of these kinds has room for any parts: no join of two files is refused because a table is too long, and no
-/// tree of joins meets such files.
+/// Each table has room for any parts, but for that of variation sequences, of which two parts may have the same selector
+/// and code: no join of two files is refused because a table has no room, but for that one. So no tree of joins of full
+/// or lean cuts meets such files.
 pub fn parts_always_fit()
-    ensures { (kind : Kind) → AlwaysFits (partition_of kind)
+    ensures tagged { (kind : Kind) (slot : ℕ) → slot ≢ SEQUENCE_SLOT → (c : Tables) (frame : List ℕ)
+        (parts : ℕ → List ℕ) → (partition_of kind slot).fits c frame parts ≡ true }
+    ensures sequences { (kind : Kind) (K : Content) → ((format_of kind).misfit K ≡ None)
+        ⊎ ((format_of kind).misfit K ≡ Some SEQUENCE_SLOT) }
+    ensures unsequenced { (kind : Kind) → keeps_sequences kind ≡ false → AlwaysFits (partition_of kind)
         × ((K : Content) → (format_of kind).misfit K ≡ None)
         × ((t : JoinTree (List ℕ)) → ¬ Overflows (format_of kind) t) }
 {}

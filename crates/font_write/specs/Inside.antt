@@ -1,16 +1,27 @@
 -- Words of private contracts and of proofs: no public clause names them.
+use Rattle.codes.specs.declared.runs.Run.{Run}
+use Rattle.font_theory.specs.Bytes.{bytes32}
 use Rattle.font_theory.specs.Content.{Content, glyph_count}
-use Rattle.font_theory.specs.File.{Writing, behind, entries_at, entry_bytes, writing_of, loca_bytes, outlines_from}
-use Rattle.font_write.specs.Parts.{IsNextKept, bodies_to, bytes_at, tables_to, start_of, glyf_to}
+use Rattle.font_theory.specs.File.{Writing, behind, cmap_front, entries_at, entry_bytes, writing_of, loca_bytes}
+use Rattle.font_theory.specs.File.{outlines_from, sequence_front}
+use Rattle.font_write.specs.Parts.{IsNextKept, bodies_to, bytes_at, groups_bytes, tables_to, start_of, glyf_to}
 use Rattle.font_write.specs.declared.made_loca.Walk.{Walk}
 use Rattle.font_write.specs.declared.plan.Plan.{Plan}
 use Rattle.sfnt_bytes.specs.declared.tag.TheConstants.{ALL_SLOTS}
 use Rattle.std.specs.List.{flat_map}
-use Rattle.std.specs.Prelude.{◌≡◌, ℕ, ◌++◌, List, length}
+use Rattle.std.specs.Prelude.{◌≡◌, ℕ, nat_eq, ◌++◌, List, length, if◌then◌else◌}
 
 -- the records of the tables at the first n places
 unfoldable pub records_to : Writing → Content → ℕ → List ℕ
 records_to writing K n = flat_map entry_bytes (entries_at (start_of writing K) (tables_to writing K n))
+
+-- what stands in `cmap` before n groups, with these bytes behind them
+unfoldable pub front_before : Writing → ℕ → List ℕ → List ℕ
+front_before writing n t = if nat_eq (length t) 0 then cmap_front writing n else flat_map bytes32 (sequence_front n)
+
+-- `cmap` up to these bytes
+unfoldable pub mapping_bytes : Writing → List Run → List ℕ → List ℕ
+mapping_bytes writing runs t = front_before writing (length runs) t ++ groups_bytes runs
 
 -- the offsets of the outlines of the first n glyphs, with that of their end
 unfoldable pub loca_to : Content → ℕ → List ℕ

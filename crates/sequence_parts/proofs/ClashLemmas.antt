@@ -1,21 +1,21 @@
 -- Parts do not fit exactly if two of them have one selector and code, or there are too many pairs.
-use Rattle.std.proofs.Common.{◌≡◌, ◌≢◌, ℕ, suc, ◌+◌, ◌*◌, ◌<◌, Bool, true, false, cond, eqb, ◌||◌, List, []}
-use Rattle.std.proofs.Common.{◌∷◌, Some, refl, ap, subst, sym, ◌∙◌, arith, inl, inr}
+use Rattle.std.proofs.Common.{◌≡◌, ◌≢◌, ℕ, suc, ◌+◌, ◌*◌, ◌<◌, Bool, true, false, cond, eqb, ◌||◌, List, [], ◌∷◌, Some}
+use Rattle.std.proofs.Common.{refl, ap, subst, sym, ◌∙◌, arith, inl, inr}
 use Rattle.std.specs.List.{filter, list_any, range_with_len}
 use Rattle.std.specs.Option.{is_some, unwrap_or}
-use Rattle.std.proofs.lemmas.Bool.{and_from, both_ways, cases_Bool, cond-false, cond-true, eq-eqb}
-use Rattle.std.proofs.lemmas.Bool.{eqb-true, and_parts}
+use Rattle.std.proofs.lemmas.Bool.{and_from, both_ways, cases_Bool, cond-false, cond-true, eq-eqb, eqb-true, and_parts}
 use Rattle.codes.specs.declared.code_points.TheConstants.{CODES}
 use Rattle.variation_sequences.specs.declared.variant.Pair.{Pair}
 use Rattle.font_theory.specs.Content.{glyph_count}
 use Rattle.sequence_parts.specs.Laws.{ClashIsInTwoParts, TwoPartsDoNotFit}
-use Rattle.sequence_parts.specs.OrderedPairs.{first_twice, is_pair_of, place_of}
-use Rattle.sequence_parts.specs.SequenceTable.{either_part, first_clash, has_sequence, have_room, pairs_at}
-use Rattle.sequence_parts.specs.SequenceTable.{pairs_of_parts, sequences}
-use Rattle.sequence_parts.proofs.MergeLemmas.{Sorts}
-use Rattle.sequence_parts.proofs.OrderLemmas.{Rises, rises_from}
-use Rattle.sequence_parts.proofs.PartLemmas.{at-among, among-sorts, part-filter, part-of_parts, room_rises}
-use Rattle.sequence_parts.proofs.TableLemmas.{AreAmong, IsPairAmong}
+use Rattle.font_theory.specs.OrderedPairs.{first_twice, is_pair_of, place_of}
+use Rattle.font_theory.specs.Parted.{sequences}
+use Rattle.font_theory.specs.SequenceTable.{have_room, pairs_at, pairs_of_parts}
+use Rattle.sequence_parts.specs.Clashes.{either_part, first_clash, has_sequence}
+use Rattle.font_theory.proofs.MergeLemmas.{Sorts}
+use Rattle.font_theory.proofs.OrderLemmas.{Rises, rises_from}
+use Rattle.font_theory.proofs.SequencePartLemmas.{at-among, among-sorts, part-filter, part-of_parts, room_rises}
+use Rattle.font_theory.proofs.SequenceTableLemmas.{AreAmong, IsPairAmong}
 
 -- a pair of a glyph
 abbrev of_glyph : ℕ → Pair → Bool

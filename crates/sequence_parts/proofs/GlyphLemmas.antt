@@ -1,6 +1,6 @@
 -- The glyph that pairs give a selector and code.
-use Rattle.std.proofs.Common.{◌≡◌, ℕ, suc, ◌+◌, ◌*◌, ◌<◌, Bool, true, false, cond, eqb, List, [], ◌∷◌, find}
-use Rattle.std.proofs.Common.{Option, None, Some, refl, ap, sym, ◌∙◌, arith, inl, inr}
+use Rattle.std.proofs.Common.{◌≡◌, ℕ, suc, ◌+◌, ◌*◌, ◌<◌, Bool, true, false, cond, eqb, List, [], ◌∷◌, find, Option}
+use Rattle.std.proofs.Common.{None, Some, refl, ap, sym, ◌∙◌, arith, inl, inr}
 use Rattle.std.specs.List.{cons_option, filter_map}
 use Rattle.std.specs.Option.{option_and_then, option_map, option_map_or}
 use Rattle.std.proofs.lemmas.Bool.{and_parts, cases_Bool, eqb-true}
@@ -14,13 +14,13 @@ use Rattle.variation_sequences.specs.declared.variant.Pair.{Pair}
 use Rattle.variation_sequences.proofs.FoundLemmas.{found_is_listed}
 use Rattle.font_theory.specs.Content.{glyph_count}
 use Rattle.sequence_parts.specs.Laws.{FontHasItsGlyphs, TableHasItsGlyphs}
-use Rattle.sequence_parts.specs.OrderedPairs.{glyph_in, is_pair_of, place_of}
-use Rattle.sequence_parts.specs.SequenceTable.{sequences_in}
+use Rattle.font_theory.specs.OrderedPairs.{glyph_in, is_pair_of, place_of}
+use Rattle.font_theory.specs.SequenceTable.{sequences_in}
 use Rattle.sequence_parts.proofs.ClashLemmas.{at_place}
-use Rattle.sequence_parts.proofs.EntryLemmas.{HasCodes, entries_rise, entry_place}
-use Rattle.sequence_parts.proofs.LawLemmas.{font_read, strict_subtable, IsStrictIfSome}
-use Rattle.sequence_parts.proofs.OrderLemmas.{Rises, rises_filter_map}
-use Rattle.sequence_parts.proofs.TableLemmas.{IsPairAmong, MapsBelow, is_read-strict, pair_kept}
+use Rattle.font_theory.proofs.SequenceEntryLemmas.{HasCodes, entries_rise, entry_place}
+use Rattle.font_theory.proofs.SequenceFontLemmas.{font_read, strict_subtable, IsStrictIfSome}
+use Rattle.font_theory.proofs.OrderLemmas.{Rises, rises_filter_map}
+use Rattle.font_theory.proofs.SequenceTableLemmas.{IsPairAmong, MapsBelow, is_read-strict, pair_kept}
 
 -- none of pairs above a place is there
 none_above : (n v c low : ℕ) (ps : List Pair) → CODES * v + c < low → Rises (IsPairAmong n) place_of low ps

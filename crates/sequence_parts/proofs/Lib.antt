@@ -1,10 +1,5 @@
 pub mod ClashLemmas
 pub mod CmapLemmas
-pub mod EntryLemmas
 pub mod GlyphLemmas
 pub mod LawLemmas
-pub mod MergeLemmas
-pub mod OrderLemmas
-pub mod PartLemmas
-pub mod TableLemmas
 pub mod WorkedLemmas

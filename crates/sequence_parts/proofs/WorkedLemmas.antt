@@ -4,11 +4,13 @@ use Rattle.variation_sequences.specs.Pairs.{part_of}
 use Rattle.variation_sequences.specs.Written.{mapping_bytes, mappings_bytes, record_bytes, subtable_bytes}
 use Rattle.variation_sequences.specs.declared.variant.Pair.{Pair}
 use Rattle.font_theory.specs.Content.{glyph_count}
-use Rattle.sequence_parts.specs.OrderedPairs.{first_twice, merged, place_of, with_one}
-use Rattle.sequence_parts.specs.SequenceTable.{MAX_PAIRS, either_part, first_clash, have_room, pairs_at, sequences_in}
-use Rattle.sequence_parts.specs.SequenceTable.{pairs_of_parts, sequences, sequence_table}
+use Rattle.font_theory.specs.OrderedPairs.{first_twice, merged, place_of, with_one}
+use Rattle.font_theory.specs.Parted.{sequences}
+use Rattle.font_theory.specs.SequenceTable.{MAX_PAIRS, have_room, pairs_at, pairs_of_parts, sequence_table}
+use Rattle.font_theory.specs.SequenceTable.{sequences_in}
+use Rattle.sequence_parts.specs.Clashes.{either_part, first_clash}
 use Rattle.sequence_parts.specs.WorkedParts.{WorkedPartsAre, lone_part, with_fe00}
-use Rattle.sequence_parts.proofs.TableLemmas.{sequences_in-none, sequences_in-table}
+use Rattle.font_theory.proofs.SequenceTableLemmas.{sequences_in-none, sequences_in-table}
 
 -- the part of each glyph
 one_read : (code g : ℕ) → code < 0x110000 → 0 < g → g < 3

@@ -4,10 +4,11 @@ use Rattle.variation_sequences.specs.Pairs.{part_of, sequence_pairs}
 use Rattle.variation_sequences.specs.Sequences.{sequence_of, variant_glyph, variant_of}
 use Rattle.font_theory.specs.Content.{glyph_count}
 use Rattle.font_theory.specs.Parting.{IsParting, Tables}
-use Rattle.sequence_parts.specs.OrderedPairs.{glyph_in}
-use Rattle.sequence_parts.specs.SequenceTable.{MAX_PAIRS, either_part, first_clash, has_sequence, is_read}
-use Rattle.sequence_parts.specs.SequenceTable.{pairs_of_parts, sequence_table, sequences, sequences_in}
-use Rattle.sequence_parts.specs.SequenceTable.{sequences_of_font}
+use Rattle.font_theory.specs.OrderedPairs.{glyph_in}
+use Rattle.font_theory.specs.Parted.{sequences}
+use Rattle.font_theory.specs.SequenceTable.{MAX_PAIRS, is_read, pairs_of_parts, sequence_table, sequences_in}
+use Rattle.font_theory.specs.SequenceTable.{sequences_of_font}
+use Rattle.sequence_parts.specs.Clashes.{either_part, first_clash, has_sequence}
 
 -- variation sequences are divided as is asked, and no table of them is bad
 abbrev pub SequencesAreDivided : Type 0

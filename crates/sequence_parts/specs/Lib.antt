@@ -1,5 +1,4 @@
+pub mod Clashes
 pub mod Laws
-pub mod OrderedPairs
 pub mod SequenceCmap
-pub mod SequenceTable
 pub mod WorkedParts

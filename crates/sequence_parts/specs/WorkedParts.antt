@@ -4,7 +4,9 @@ use Rattle.variation_sequences.specs.Written.{subtable_bytes}
 use Rattle.variation_sequences.specs.declared.variant.Pair.{Pair}
 use Rattle.font_theory.specs.Content.{glyph_count}
 use Rattle.font_theory.specs.Parting.{Tables}
-use Rattle.sequence_parts.specs.SequenceTable.{either_part, first_clash, sequences, sequence_table}
+use Rattle.font_theory.specs.Parted.{sequences}
+use Rattle.font_theory.specs.SequenceTable.{sequence_table}
+use Rattle.sequence_parts.specs.Clashes.{either_part, first_clash}
 
 -- a code with the selector U+FE00, and the glyph of both
 abbrev pub with_fe00 : ℕ → ℕ → Pair

@@ -1,6 +1,6 @@
 //! Laws of variation sequences as a divided table: the contract of each function is what it says.
 ghost use Rattle.sequence_parts.specs.Laws.{ClashIsInTwoParts, FitWithoutClash, FontHasItsGlyphs, FontHasOwnParts, PartsAreTheTable, PartsOfOneTableFit, SequencesAreDivided, TableHasItsGlyphs, TwoPartsDoNotFit, WholeIsOfItsParts};
-ghost use Rattle.sequence_parts.specs.SequenceCmap.{SequencesAreRead, SequencesChangeNoMap, TableIsReadBack, ThirdIsChosen};
+ghost use Rattle.sequence_parts.specs.SequenceCmap.{SequencesAreRead, SequencesChangeNoMap, TableIsReadBack};
 ghost use Rattle.sequence_parts.specs.WorkedParts.{WorkedPartsAre};
 
 /// Variation sequences are divided by glyph as each divided table is.
@@ -66,11 +66,6 @@ pub fn sequences_are_read()
 /// The table of parts that fit is that of a font with the `cmap` that it is written into.
 pub fn table_is_read_back()
     ensures { TableIsReadBack }
-{}
-
-/// With sequences the map is that of the third record, 3/10, of format 12, whose subtable is that of the first.
-pub fn third_is_chosen()
-    ensures { ThirdIsChosen }
 {}
 
 /// What the parts of two glyphs come to, with one selector and code and with two codes.

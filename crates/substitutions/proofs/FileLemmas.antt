@@ -1,17 +1,15 @@
 -- What a closed cut of a file has of the glyphs of a run.
-use Rattle.std.proofs.Common.{◌≡◌, ℕ, ◌<◌, ◌≤◌, Bool, true, false, cond, ltb, ◌&&◌, inl, inr, List, [], ◌∷◌, set}
+use Rattle.std.proofs.Common.{◌≡◌, ℕ, ◌<◌, ◌≤◌, Bool, true, false, cond, ◌&&◌, inl, inr, List, [], set}
 use Rattle.std.proofs.Common.{length, refl, sym, ap, subst, ◌∙◌, ◌⊎◌, nat_eq, arith, Option, Some, None, unwrap_or}
 use Rattle.std.specs.List.{All, Contains}
-use Rattle.std.proofs.lemmas.Bool.{both_ways, cases_Bool, cases_lt, eqb-true, false_from_ne_true, le-leb, lt-ltb}
-use Rattle.std.proofs.lemmas.Bool.{or_parts, or_right}
+use Rattle.std.proofs.lemmas.Bool.{both_ways, cases_Bool, cases_lt, eqb-true, lt-ltb}
 use Rattle.std.proofs.lemmas.List.Elements.{All-contains, All-drop, All-nil, All-set, All-take}
 use Rattle.sfnt_bytes.specs.Directory.{slot_tag, table_entry, table_of}
 use Rattle.sfnt_bytes.specs.Lines.{when}
 use Rattle.sfnt_bytes.specs.declared.directory.TheConstants.{MAX_FILE}
-use Rattle.sfnt_bytes.specs.declared.tag.TheConstants.{ALL_SLOTS, GSUB}
+use Rattle.sfnt_bytes.specs.declared.tag.TheConstants.{GSUB}
 use Rattle.font_file.specs.Font.{map_of}
 use Rattle.font_layout.specs.Cleaning.{field_at, fixed, has_field, with_zeros}
-use Rattle.font_glyph.proofs.FoundLemmas.{any_decides}
 use Rattle.font_glyph.specs.Reach.{IsComponentOf, Reach}
 use Rattle.font_glyph.specs.Reach.Reach.{seed, part}
 use Rattle.font_theory.specs.Bytes.{padded}
@@ -34,6 +32,8 @@ use Rattle.font_theory.proofs.WordLemmas.{parts-reduced, reduced-undivided}
 use Rattle.substitutions.specs.Shaping.{BecomesInSteps}
 use Rattle.substitutions.proofs.ClosureLemmas.{run_wanted}
 use Rattle.substitutions.proofs.ReadLemmas.{option_cases}
+use Rattle.font_theory.specs.Difference.{PARTED}
+use Rattle.font_theory.proofs.ClosedLemmas.{past_parted, record-tells}
 
 abbrev AreBytes : List ℕ → Type 0
 AreBytes = All (λ byte. byte < 256)
@@ -95,20 +95,6 @@ module _ (s : Settings) (is : AreSettings s) (X : List ℕ) (accepted : fault_by
   gsub-readable = readable
 
   -- what has nothing needs nothing
-  record-tells : (outline : List ℕ) (parts : ℕ → List ℕ) → has_record outline parts ≡ false → (outline ≡ [])
-      × ((slot : ℕ) → slot < ALL_SLOTS → parts slot ≡ [])
-  unfolding has_record
-  record-tells outline parts h =
-      let w = or_parts _ _ h in (
-        empty outline w.0,
-        λ slot low. empty (parts slot) (false_from_ne_true (ltb 0 (length (parts slot)))
-            (λ t. both_ways _ w.1 ((any_decides (λ x. ltb 0 (length (parts x))) ALL_SLOTS).1 (slot, low, t)))),
-      )
-    where
-      empty : (xs : List ℕ) → ltb 0 (length xs) ≡ false → xs ≡ []
-      empty [] h = refl
-      empty (x ∷ xs) h = absurd (both_ways (ltb 0 (length (x ∷ xs))) h (lt-ltb 0 (length (x ∷ xs)) (omega arith)))
-
   blank : (g : ℕ) → g < glyph_count F.copied → F.there g ≡ false → (F.outline g ≡ [])
       × ((slot : ℕ) → parts_of s.partition F.copied slot g ≡ [])
   unfolding there_by
@@ -118,10 +104,9 @@ module _ (s : Settings) (is : AreSettings s) (X : List ℕ) (accepted : fault_by
       && has_record (F.outline g) (λ slot. parts_of s.partition F.copied slot g)))) ∙ gone in
       let told = record-tells (F.outline g) (λ slot. parts_of s.partition F.copied slot g) nothing in (
         told.0,
-        λ slot. elim (cases_lt slot ALL_SLOTS) [
+        λ slot. elim (cases_lt slot PARTED) [
           | inl few ↦ told.1 slot few
-          | inr past ↦ parts_of-none s.partition F.copied slot g
-              (ok.slots slot (or_right _ _ (le-leb ALL_SLOTS slot past)))
+          | inr past ↦ parts_of-none s.partition F.copied slot g (ok.slots slot (past_parted slot past))
         ],
       )
 

@@ -100,7 +100,7 @@ pub IsParting-toys : IsParting (λ _ _. false) toys
 unfolding toys
 IsParting-toys = record {
   frame_good = λ c t h. refl;
-  whole_good = λ c frame parts h. refl;
+  whole_good = λ c frame parts h fit. refl;
   frame_again = λ c t h. again (λ _. []) (λ _. []) t;
   own_fit = λ c t h. refl;
   fewer_fit = λ c frame parts fewer h fit few. refl;
@@ -166,7 +166,7 @@ laid u first second t each =
 
 pub toys_united : (C E : Content) → IsUnionOf toys TOYS C E None
 unfolding toys
-toys_united C E = λ c P Q are.
+toys_united C E = λ c P Q are fit.
     (λ i. made_or_laid None (are.first i) (unwrap_or (are.second i) []))
     ∙ go P Q (λ g. cond (is_some (C.outline g)) (P g) (Q g))
     (each_byte C E P Q are.first_kept are.second_kept are.same) (c TOYS)

@@ -40,6 +40,11 @@ impl<'t> TablesBySlot<'t> for ToysAlone<'t> {
         }
         None
     }
+
+    #[tactic(auto, unfolding(crate::specs::Toys::toys_alone))]
+    fn sequences(&self) -> Option<&[u8]> {
+        None
+    }
 }
 
 // Tells whether a glyph has the same part in a table of two fonts, where neither table is refused.

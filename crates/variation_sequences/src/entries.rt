@@ -159,7 +159,7 @@ impl<'a> Model for Entries<'a> {
 
 impl<'a> Entries<'a> {
     /// Returns all that a subtable says.
-    pub(crate) fn of(bytes: &'a [u8]) -> Entries<'a>
+    pub fn of(bytes: &'a [u8]) -> Entries<'a>
         requires { is_strict bytes.now ≡ true }
         ensures { result ≡ entries_of bytes.now }
     {

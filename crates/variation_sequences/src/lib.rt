@@ -16,6 +16,7 @@ pub use crate::entries::Entries;
 pub use crate::format14::Sequences;
 pub use crate::laws::{found_is_listed, made_has_size, made_is_read_back};
 pub use crate::made_sequences::{made_size, make_subtable};
+pub use crate::strict::is_strict;
 pub use crate::variant::{Entry, Pair, Variant, pair_of, variant_glyph};
 
 #[cfg(test)]

@@ -149,9 +149,9 @@ fn have_ordered_lists(s: &[u8]) -> bool
     true
 }
 
-/// Returns whether a subtable is read.
+/// Returns whether a subtable is read: all in it is in order and in place.
 #[tactic(auto, unfolding(crate::specs::Strict::is_strict))]
-pub(crate) fn is_strict(s: &[u8]) -> bool
+pub fn is_strict(s: &[u8]) -> bool
     requires { 10 ≤ length s.now }
     ensures { result ≡ is_strict s.now }
 {

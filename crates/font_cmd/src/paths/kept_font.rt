@@ -101,15 +101,18 @@ fn over_font<'a>(alloc: Global, writes: Writes, cut: &'a str, font: &str) -> Com
     }
 }
 
-// Refuses to write the cut of FONT over itself, where that is no cut. A full cut may replace its font.
-fn keep_itself<'a>(
+// Returns whether the cut of FONT is to replace it, where that is no cut. A full cut may.
+fn replaces_itself<'a>(
     alloc: Global,
     kind: Kind,
     font: &'a str,
     file: &[u8],
-) -> Result<(), CommandError<'a>> {
-    if kind == Kind::Full || cut_in(alloc, file)?.is_some() {
-        return Ok(());
+) -> Result<bool, CommandError<'a>> {
+    if cut_in(alloc, file)?.is_some() {
+        return Ok(false);
+    }
+    if kind == Kind::Full {
+        return Ok(true);
     }
     Err(CommandError::OverItself {
         writes: Writes::Cut,
@@ -118,33 +121,34 @@ fn keep_itself<'a>(
 }
 
 /// Refuses a line that would replace a font by a cut, where FONT, whose file this is, is a cut of it, or the font itself
-/// and the cut is no full one, and that is not forced. Where nothing stands at OUT, only that is looked at.
+/// and the cut is no full one, and that is not forced. Returns whether a full cut replaces FONT, which is no cut. Where
+/// nothing stands at OUT, only that is looked at.
 ///
 /// # Errors
 /// `OverFont` and `OverItself` where it would, `Refused` if out of memory.
-pub(crate) fn keep_font<'a, F: HeldFiles, I, O>(
+pub(crate) fn replaces_font<'a, F: HeldFiles, I, O>(
     system: &System<'a, F, I, O>,
     kind: Kind,
     line: &Subset<'a>,
     file: &[u8],
-) -> Result<(), CommandError<'a>> {
+) -> Result<bool, CommandError<'a>> {
     if line.is_forced || line.out == STANDARD {
-        return Ok(());
+        return Ok(false);
     }
     let Some(stands) = standing_file(system.files, system.alloc, line.out)? else {
-        return Ok(());
+        return Ok(false);
     };
     if is_file_at(system.files, line.font, &stands) {
-        return keep_itself(system.alloc, kind, line.font, file);
+        return replaces_itself(system.alloc, kind, line.font, file);
     }
     if !may_be_font_at(system.files, line.out, &stands, file.len()) {
-        return Ok(());
+        return Ok(false);
     }
     match cut_in(system.alloc, file)? {
         Some(cut) if has_font_of(system, line.out, &cut)? => {
             Err(over_font(system.alloc, Writes::Cut, line.font, line.out))
         }
-        _ => Ok(()),
+        _ => Ok(false),
     }
 }
 

@@ -24,7 +24,7 @@ returns-clause-cuts g c =
     λ F A B accepted. c.join_of_kind.ensures.cuts F (of_codes A) (of_codes B) (full_fault-is F ∙ accepted)
 
 pub returns-clause-fits : goal.returns-clause-fits
-returns-clause-fits g c = c.join_of_kind.ensures.fits (misfit-kind Full)
+returns-clause-fits g c = c.join_of_kind.ensures.fits (misfit-kind Full refl)
 
 pub returns-clause-itself : goal.returns-clause-itself
 returns-clause-itself g c = λ accepted own same.

@@ -1,11 +1,19 @@
-use Rattle.font_theory.specs.Kinds.{format_of}
-use Rattle.font_theory.proofs.KindLemmas.{AlwaysFits-kind, kind_is, misfit-kind}
+use Rattle.font_theory.specs.Kinds.{format_by, format_of, partition_of}
+use Rattle.font_theory.proofs.DividedLemmas.{misfit-tagged}
+use Rattle.font_theory.proofs.KindLemmas.{AlwaysFits-kind, fits-tagged, kind_is, misfit-kind}
 use Rattle.font_theory.proofs.TreeLemmas.{Overflows-none}
 use Rattle.font_theory.proofs.kinds.parts_always_fit.Goals as goal
 
-pub returns : goal.returns
-returns c = λ kind. (
-  AlwaysFits-kind kind,
-  misfit-kind kind,
-  Overflows-none (format_of kind) (kind_is kind).law (misfit-kind kind),
+pub returns-clause-tagged : goal.returns-clause-tagged
+returns-clause-tagged c = fits-tagged
+
+pub returns-clause-sequences : goal.returns-clause-sequences
+unfolding format_by
+returns-clause-sequences c = λ kind K. misfit-tagged (partition_of kind) (fits-tagged kind) K
+
+pub returns-clause-unsequenced : goal.returns-clause-unsequenced
+returns-clause-unsequenced c = λ kind none. (
+  AlwaysFits-kind kind none,
+  misfit-kind kind none,
+  Overflows-none (format_of kind) (kind_is kind).law (misfit-kind kind none),
 )

@@ -2,7 +2,7 @@ use Rattle.std.proofs.Common.{ℕ, List, [], refl, sym, ap, ◌∙◌, Option, a
 use Rattle.std.specs.Option.{unwrap_or}
 use Rattle.sfnt_bytes.specs.Sums.{checksum_of}
 use Rattle.font_theory.specs.Content.{Content}
-use Rattle.font_theory.specs.File.{Writing, checksum_in_slot, cmap_bytes, writing_of, groups_of_content}
+use Rattle.font_theory.specs.File.{Writing, checksum_in_slot, cmap_of_content, writing_of}
 use Rattle.font_theory.proofs.SumLemmas.{checksum_in_slot-other}
 use Rattle.font_write.specs.Parts.{last_head}
 use Rattle.font_write.specs.Inside.{all_offsets, glyf_in}
@@ -16,7 +16,7 @@ pub returns-in-Some-Cmap : goal.returns-in-Some-Cmap
 returns-in-Some-Cmap g c =
     let writing : Writing = writing_of c.args.profile in
     let K : Content = g.S.Source.content_of c.args.source.now in
-    sum_is writing K c.args.slot 1 (cmap_bytes writing (groups_of_content K)) _ (c.in-Some-Cmap.ensures
+    sum_is writing K c.args.slot 1 (cmap_of_content writing K) _ (c.in-Some-Cmap.ensures
     ∙ ap slot_of c.in-Some-Cmap.field-0-is) (table_cmap writing K) c.sum_cmap.ensures
 
 pub returns-in-Some-Glyf : goal.returns-in-Some-Glyf

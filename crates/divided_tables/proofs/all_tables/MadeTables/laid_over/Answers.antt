@@ -10,6 +10,8 @@ invariant_of-result g c = record {
   short_hmtx = laid_short _ _ _ _ c.made_or_laid-2.ensures c.made.invariant.short_hmtx c.self.invariant.short_hmtx;
   short_post = laid_short _ _ _ _ c.made_or_laid-3.ensures c.made.invariant.short_post c.self.invariant.short_post;
   short_vmtx = laid_short _ _ _ _ c.made_or_laid-4.ensures c.made.invariant.short_vmtx c.self.invariant.short_vmtx;
+  short_sequences = laid_short _ _ _ _ c.made_or_laid-5.ensures c.made.invariant.short_sequences
+      c.self.invariant.short_sequences;
 }
 
 pub returns : goal.returns
@@ -22,4 +24,6 @@ returns g c = λ i. record {
       (unwrap_or (looked_up (λ b. b.now) c.copied-3.result _ c.copied-3.ensures.table j) []))) i;
   vmtx = (c.made_or_laid-4.ensures ∙ (λ j. made_or_laid (c.made.view_is j).vmtx (c.self.view_is j).vmtx
       (unwrap_or (looked_up (λ b. b.now) c.copied-4.result _ c.copied-4.ensures.table j) []))) i;
+  sequences = (c.made_or_laid-5.ensures ∙ (λ j. made_or_laid (c.made.view_is j).sequences (c.self.view_is j).sequences
+      (unwrap_or (looked_up (λ b. b.now) c.copied-5.result _ c.copied-5.ensures.table j) []))) i;
 }

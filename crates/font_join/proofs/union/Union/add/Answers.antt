@@ -84,6 +84,6 @@ returns-clause-exact g c = λ kind K same h.
     let grown = subst (λ (v : Kind × List ℕ). IsGrown c.args.self.kind v.1 K union) file merged in (
       grown,
       late R K y (form_whole R Second y form.accepted (is_cut-of R (kind_is c.args.self.kind).law y form)) None None
-          grown.none (sym grown.fit),
+          grown.none (λ _. sym grown.fit),
     ))
     (λ error refused. subst (λ (v : Kind × List ℕ). IsAddRefusal R K v.1 error) file refused))

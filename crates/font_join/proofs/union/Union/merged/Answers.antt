@@ -21,6 +21,7 @@ use Rattle.font_join.proofs.JoinLemmas.{form_whole}
 use Rattle.font_join.proofs.AddFaultLemmas.{late, late_memory, late_none, late_refused}
 use Rattle.font_join.proofs.MergeLemmas.{agree_of, compatible, count_early, fine_file, fine_union, form_of, grown_of}
 use Rattle.font_join.proofs.MergeLemmas.{misfit_of_union, spells_file, told_of, union_of_all}
+use Rattle.font_join.proofs.ToldLemmas.{least_parts}
 use Rattle.font_subset.proofs.CutLemmas.{passed_on}
 use Rattle.font_join.proofs.union.Union.merged.Goals as goal
 
@@ -50,8 +51,8 @@ united-requires-clause-count g c =
     ∙ ap (λ (k : Kind). glyph_count (tables_of k y)) (sym c.requires.same)
 
 pub returns-in_err-made-clause-exact : goal.returns-in_err-made-clause-exact
-returns-in_err-made-clause-exact g c = λ K spells. passed_on _ _ c.from_residual.result NoMemory
-    c.from_residual.ensures.1 tt
+returns-in_err-made-clause-exact g c = λ K spells. passed_on _ _ c.from_residual-in_err-made.result NoMemory
+    c.from_residual-in_err-made.ensures.1 tt
 
 -- a glyph that differs, or else a table that has no room
 pub returns-in-Some-clause-exact : goal.returns-in-Some-clause-exact
@@ -68,23 +69,24 @@ returns-in-Some-clause-exact g c = subst (λ (v : Held). (K : Content) → Spell
     c.requires.same c.args.file.1 c.requires.form
     c.requires.early c.glyph_count-count.result
     (c.glyph_count-count.ensures.count ∙ ap glyph_count_of (c.tables.ensures.tables ∙ c.font.ensures.font))
-    c.take-other.result c.other_parts-parts.result c.take-other.ensures.differs c.other_parts-parts.ensures K spells in
+    c.take-other.result c.in_ok-parts.parts c.take-other.ensures.differs c.in_ok-parts.ensures.told K spells in
     let told = told_of u c.args.self c.self.view_is c.args.file.0 c.requires.same c.args.file.1 c.requires.form
     c.requires.early c.glyph_count-count.result
     (c.glyph_count-count.ensures.count ∙ ap glyph_count_of (c.tables.ensures.tables ∙ c.font.ensures.font))
-    c.take-other.result c.other_parts-parts.result c.take-other.ensures.differs c.other_parts-parts.ensures K spells in
-    late_refused (format_of u.kind) K c.args.file.1 c.least.result c.misfit-misfit.result c.in-Some.error
+    c.take-other.result c.in_ok-parts.parts c.take-other.ensures.differs c.in_ok-parts.ensures.told K spells in
+    late_refused (format_of u.kind) K c.args.file.1 c.least.result c.in_ok-misfit.misfit c.in-Some.error
     (late (format_of u.kind) K c.args.file.1 (form_whole (format_of u.kind) Second c.args.file.1 form.accepted
-    (is_cut-of (format_of u.kind) (kind_is u.kind).law c.args.file.1 form)) c.least.result c.misfit-misfit.result
+    (is_cut-of (format_of u.kind) (kind_is u.kind).law c.args.file.1 form)) c.least.result c.in_ok-misfit.misfit
     (told ∙ ap (option_map AtGlyph) (sym c.least.ensures))
-    (misfit_of_union u c.args.self c.self.view_is c.args.file.1 c.misfit-misfit.result c.misfit-misfit.ensures.told K
-    spells))
+    (λ none. misfit_of_union u c.args.self c.self.view_is c.args.file.1 c.in_ok-misfit.misfit c.in_ok-parts.parts
+    c.in_ok-parts.ensures.told c.in_ok-misfit.ensures.told K spells
+    (least_parts c.in_ok-parts.parts c.take-other.result (sym c.least.ensures ∙ none))))
     (sym c.late_refusal.ensures ∙ c.in-Some.is))
 
 pub returns-in-Some-clause-memory : goal.returns-in-Some-clause-memory
 returns-in-Some-clause-memory g c = λ e.
     let same : c.in-Some.error ≡ NoMemory = cc in
-    absurd (late_memory c.least.result c.misfit-misfit.result
+    absurd (late_memory c.least.result c.in_ok-misfit.misfit
     (sym c.late_refusal.ensures ∙ c.in-Some.is ∙ ap Some same))
 
 pub with-requires-clause-agree : goal.with-requires-clause-agree
@@ -102,13 +104,13 @@ with-requires-clause-agree g c =
     c.requires.same c.args.file.1 c.requires.form
     c.requires.early c.glyph_count-count.result
     (c.glyph_count-count.ensures.count ∙ ap glyph_count_of (c.tables.ensures.tables ∙ c.font.ensures.font))
-    c.take-other.result c.other_parts-parts.result c.take-other.ensures.differs c.other_parts-parts.ensures K spells in
+    c.take-other.result c.in_ok-parts.parts c.take-other.ensures.differs c.in_ok-parts.ensures.told K spells in
     let agree : Agree K (content_of_all (format_of u.kind) c.args.file.1) = agree_of u c.args.self c.self.view_is
     c.args.file.0 c.requires.same c.args.file.1 c.requires.form
     c.requires.early c.glyph_count-count.result
     (c.glyph_count-count.ensures.count ∙ ap glyph_count_of (c.tables.ensures.tables ∙ c.font.ensures.font))
-    c.take-other.result c.other_parts-parts.result c.take-other.ensures.differs c.other_parts-parts.ensures K spells
-    (sym c.least.ensures ∙ (late_none c.least.result c.misfit-misfit.result (sym c.late_refusal.ensures
+    c.take-other.result c.in_ok-parts.parts c.take-other.ensures.differs c.in_ok-parts.ensures.told K spells
+    (sym c.least.ensures ∙ (late_none c.least.result c.in_ok-misfit.misfit (sym c.late_refusal.ensures
     ∙ c.in_default.is)).0) in
     subst (λ (m : ℕ → ℕ). AreCompatible (map_in u.runs) m) (sym c.in_ok-runs.ensures.runs.spelled_map)
     (compatible u c.args.file.1 K spells form agree)
@@ -125,10 +127,10 @@ invariant_of-result g c =
     union_of_all u c.args.self c.self.view_is c.args.file.0 c.requires.same c.args.file.1 c.requires.form
     c.requires.early c.glyph_count-count.result
     (c.glyph_count-count.ensures.count ∙ ap glyph_count_of (c.tables.ensures.tables ∙ c.font.ensures.font))
-    c.take-other.result c.other_parts-parts.result c.take-other.ensures.differs c.other_parts-parts.ensures
-    (sym c.least.ensures ∙ (late_none c.least.result c.misfit-misfit.result (sym c.late_refusal.ensures
-    ∙ c.in_default.is)).0) c.misfit-misfit.result c.misfit-misfit.ensures.told
-    (late_none c.least.result c.misfit-misfit.result (sym c.late_refusal.ensures ∙ c.in_default.is)).1
+    c.take-other.result c.in_ok-parts.parts c.take-other.ensures.differs c.in_ok-parts.ensures.told
+    (sym c.least.ensures ∙ (late_none c.least.result c.in_ok-misfit.misfit (sym c.late_refusal.ensures
+    ∙ c.in_default.is)).0) c.in_ok-misfit.misfit c.in_ok-misfit.ensures.told
+    (late_none c.least.result c.in_ok-misfit.misfit (sym c.late_refusal.ensures ∙ c.in_default.is)).1
     c.in_ok-map.map c.take-other.new.self c.laid_over-own.result
     c.in_ok-made.made c.self.invariant.count c.take-other.ensures.taken
     (c.in_ok-map.ensures.map ∙ ap (united (map_in u.runs)) c.in_ok-runs.ensures.runs.spelled_map)
@@ -154,10 +156,10 @@ returns-clause-exact g c = subst (λ (v : Held). (K : Content) → SpellsIn v.ki
     grown_of u c.args.self c.self.view_is c.args.file.0 c.requires.same c.args.file.1 c.requires.form
     c.requires.early c.glyph_count-count.result
     (c.glyph_count-count.ensures.count ∙ ap glyph_count_of (c.tables.ensures.tables ∙ c.font.ensures.font))
-    c.take-other.result c.other_parts-parts.result c.take-other.ensures.differs c.other_parts-parts.ensures
-    (sym c.least.ensures ∙ (late_none c.least.result c.misfit-misfit.result (sym c.late_refusal.ensures
-    ∙ c.in_default.is)).0) c.misfit-misfit.result c.misfit-misfit.ensures.told
-    (late_none c.least.result c.misfit-misfit.result (sym c.late_refusal.ensures ∙ c.in_default.is)).1
+    c.take-other.result c.in_ok-parts.parts c.take-other.ensures.differs c.in_ok-parts.ensures.told
+    (sym c.least.ensures ∙ (late_none c.least.result c.in_ok-misfit.misfit (sym c.late_refusal.ensures
+    ∙ c.in_default.is)).0) c.in_ok-misfit.misfit c.in_ok-misfit.ensures.told
+    (late_none c.least.result c.in_ok-misfit.misfit (sym c.late_refusal.ensures ∙ c.in_default.is)).1
     c.in_ok-map.map c.take-other.new.self c.laid_over-own.result
     c.in_ok-made.made c.self.invariant.count c.take-other.ensures.taken
     (c.in_ok-map.ensures.map ∙ ap (united (map_in u.runs)) c.in_ok-runs.ensures.runs.spelled_map)
@@ -171,3 +173,11 @@ returns-in_err-runs-clause-exact g c = λ K spells. passed_on _ _ c.from_residua
 pub returns-in_err-map-clause-exact : goal.returns-in_err-map-clause-exact
 returns-in_err-map-clause-exact g c = λ K spells. passed_on _ _ c.from_residual-in_err-map.result NoMemory
     c.from_residual-in_err-map.ensures.1 tt
+
+pub returns-in_err-parts-clause-exact : goal.returns-in_err-parts-clause-exact
+returns-in_err-parts-clause-exact g c = λ K spells. passed_on _ _ c.from_residual.result NoMemory
+    c.from_residual.ensures.1 tt
+
+pub returns-in_err-misfit-clause-exact : goal.returns-in_err-misfit-clause-exact
+returns-in_err-misfit-clause-exact g c = λ K spells. passed_on _ _ c.from_residual-in_err-misfit.result NoMemory
+    c.from_residual-in_err-misfit.ensures.1 tt

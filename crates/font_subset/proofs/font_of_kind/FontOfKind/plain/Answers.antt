@@ -1,11 +1,18 @@
-use Rattle.std.proofs.Common.{◌≡◌, false, List, ℕ, subst, sym, true, ◌∙◌}
+use Rattle.std.proofs.Common.{◌≡◌, None, refl, false, List, ℕ, subst, sym, true, ◌∙◌}
 use Rattle.font_theory.specs.Kinds.{tables_of}
 use Rattle.font_theory.specs.declared.kinds.Kind.{Kind}
+use Rattle.font_theory.specs.declared.kinds.TheConstants.{SEQUENCES}
 use Rattle.divided_tables.specs.DividedTables.{AreOpen, has_refused}
 use Rattle.font_subset.specs.Inside.{IsOpenedForKind}
 use Rattle.font_subset.proofs.FurtherTableLemmas.{plain_accepted}
-use Rattle.font_subset.proofs.SourceLemmas.{not_refused}
+use Rattle.font_subset.proofs.SourceLemmas.{no_sequences, not_refused}
 use Rattle.font_subset.proofs.font_of_kind.FontOfKind.plain.Goals as goal
+
+pub unsequenced-requires : goal.unsequenced-requires
+unsequenced-requires g c κs =
+    let none = subst (λ (v : Kind × List ℕ). tables_of v.0 v.1 SEQUENCES ≡ None) (sym c.unread-tables.ensures)
+    (no_sequences c.args.kind c.args.font.now c.requires) in
+    ((refl, tt), none)
 
 pub invariant_of-result : goal.invariant_of-result
 invariant_of-result g c =

@@ -10,7 +10,7 @@ pub returns-then-slots_of-slot-clause-table : goal.returns-then-slots_of-slot-cl
 returns-then-slots_of-slot-clause-table g c =
     subst (λ (v : Kind × List ℕ). tables_of v.0 v.1 c.args.slot ≡ None) c.self.view_is
     (unread c.self.inside.kind c.self.inside.font.now c.args.slot c.requires
-    (subst (λ (n : ℕ). n ≤ c.args.slot) c.slots_of.ensures c.if-slots_of-slot.true))
+    (subst (λ (n : ℕ). n ≤ c.args.slot) c.slots_of.ensures c.if-slots_of-slot.true) c.if-slot-eq-SEQUENCES.false)
 
 pub returns-in-None-clause-table : goal.returns-in-None-clause-table
 returns-in-None-clause-table g c =

@@ -1,0 +1,14 @@
+pub mod GlyphLemmas
+pub mod LayerLemmas
+pub mod LayerReadLemmas
+pub mod PaintListLemmas
+pub mod ShapeLemmas
+pub mod ForestLemmas
+pub mod FormedLemmas
+pub mod PaintReadLemmas
+pub mod PaintTableLemmas
+pub mod StoreLemmas
+pub mod LinkLemmas
+pub mod ByteLemmas
+pub mod TreeByteLemmas
+pub mod TableByteLemmas

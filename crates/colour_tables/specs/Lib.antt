@@ -1,0 +1,9 @@
+pub mod ListedGlyphs
+pub mod Laws
+pub mod LayerLists
+pub mod NamedGlyphs
+pub mod MadePaints
+pub mod PaintLists
+pub mod Paints
+pub mod Stores
+pub mod MadeLayers
