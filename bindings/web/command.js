@@ -290,7 +290,7 @@ function refusing(given, path, data, work) {
 const writeFont = (out, data) => write(out, /\.woff2$/i.test(out) ? woff2(data) : data);
 
 // The slices of a file: in each line a name and ranges, and sequences. Each has the ranges of characters that the font
-// maps.
+// maps, and those that are listed.
 function slicesOfFile(path, font) {
     const mapped = codes(font), lines = text(read(path), path).replace(/^\uFEFF/, '').split('\n');
     return lines.flatMap((line, i) => {
@@ -300,7 +300,7 @@ function slicesOfFile(path, font) {
         }
         const { ranges: listed, sequences } = namedBy(name ? list : '');
         const unicodes = shared(mapped, listed).map((range) => rangeWord(range, 'U+')).join(', ');
-        return name ? [{ name, unicodes, sequences }] : [];
+        return name ? [{ name, unicodes, listed, sequences }] : [];
     });
 }
 
@@ -366,7 +366,7 @@ async function runSlice(given, [path, folder, ...more]) {
         }
     });
     if (!given.quiet) {
-        const codesOfAll = wanted.flatMap((one) => ranges(one.unicodes));
+        const codesOfAll = wanted.flatMap((one) => one.listed ?? ranges(one.unicodes));
         const asked = { wanted: codesOfAll, named: codesOfAll, texts: [], hasGlyphs: true };
         const none = every.length ? [] : given.slices.map((one) => `${shownName(one)} names no slice`);
         say([...said, ...none, ...lossesOf(shownName(path), font, kind, asked)]);
