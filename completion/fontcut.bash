@@ -5,7 +5,7 @@
 _fontcut_options() {
     case $1 in
     '') echo '--verbose --quiet --version --help' ;;
-    codes) echo '--glyphs --verbose --quiet --help' ;;
+    codes) echo '--glyphs --sequences --verbose --quiet --help' ;;
     belongs) echo '--full --lean --layout --variable --drop --verbose --quiet --help' ;;
     subset)
         echo '--text --text-file --exactly --codes-file --unicodes --complete --exclude --exclude-file --gids'

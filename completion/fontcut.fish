@@ -8,7 +8,7 @@ function __fontcut_options
         case ''
             printf '%s\n' --verbose --quiet --version --help
         case codes
-            printf '%s\n' --glyphs --verbose --quiet --help
+            printf '%s\n' --glyphs --sequences --verbose --quiet --help
         case belongs
             printf '%s\n' --full --lean --layout --variable --drop --verbose --quiet --help
         case subset

@@ -15,9 +15,11 @@
  * The layout cut of a font for a text, where `room` bytes at `out` are enough for it:
  *
  *     fontcut_range ranges[64];
+ *     uint16_t glyphs[64];
  *     fontcut_answer needed = fontcut_needed(text, text_length, ranges, 64);
- *     fontcut_request request = {sizeof request, FONTCUT_LAYOUT, FONTCUT_CLOSES, ranges, needed.size, NULL, 0};
- *     fontcut_answer cut = fontcut_subset(&request, font, font_length, out, room);
+ *     fontcut_answer drawn = fontcut_variants(0, font, font_length, text, text_length, glyphs, 64);
+ *     fontcut_request asked = {sizeof asked, FONTCUT_LAYOUT, FONTCUT_CLOSES, ranges, needed.size, glyphs, drawn.size};
+ *     fontcut_answer cut = fontcut_subset(&asked, font, font_length, out, room);
  *     if (cut.status == FONTCUT_DONE) fwrite(out, 1, cut.size, stdout);
  *
  * FONTCUT_SMALL_ROOM says in `size` how much room a call needs: ask with a room of 0, and then again. */
@@ -75,7 +77,7 @@ typedef struct fontcut_losses {
     uint32_t first_missing, first_unshaped; /* the first of these characters, and the first one of these scripts */
     uint32_t axes, colours;      /* how many axes it has, if the cut has none; and the tag of the first table with
                                   * colours, which cuts drop */
-    uint32_t sequence, selector; /* a wanted variation sequence of it, which cuts drop: its character and selector */
+    uint32_t sequence, selector; /* the character and selector of a wanted variation sequence, if the cut has none */
 } fontcut_losses;
 
 /* A flag of a request: layout and variable cuts also have each glyph that GSUB may put for the wanted ones, in any
@@ -258,9 +260,17 @@ fontcut_answer fontcut_info(const uint8_t *font, size_t font_length, fontcut_fon
  * `fontcut subset --text` keeps the same for layout and variable cuts. `room` is in ranges. Statuses: 106, 16, 100. */
 fontcut_answer fontcut_needed(const uint8_t *text, size_t text_length, fontcut_range *out, size_t room);
 
-/* Writes the codes that the words of a list in UTF-8 name to the front of `out`, in the same form, as `fontcut subset
- * --codes-file` reads a list: `U+41`, `41-5A`, `U+4??`, `all`, with blanks, line ends, commas or semicolons between
- * them. `room` is in ranges. Statuses: 106, 16, 100. */
+/* Writes the glyphs that a font has for the variation sequences of a text in UTF-8 to the front of `out`, ascending;
+ * size: how many they are. A sequence is a character and the selector that follows it at once (cmap, format 14). Layout
+ * and variable cuts keep the sequences of glyphs that they keep: ask them for these by number, as `fontcut subset
+ * --text` does. `flags` is FONTCUT_CHECKED or 0, and `room` is in glyphs. Statuses: 105; those of fontcut_check, 106,
+ * 16, 100. */
+fontcut_answer fontcut_variants(uint32_t flags, const uint8_t *font, size_t font_length, const uint8_t *text,
+                                size_t text_length, uint16_t *out, size_t room);
+
+/* Writes the codes that the words of a list in UTF-8 name to the front of `out`, in the form of fontcut_needed, as
+ * `fontcut subset --codes-file` reads a list: `U+41`, `41-5A`, `U+4??`, `all`, with blanks, line ends, commas or
+ * semicolons between them. Words for sequences are refused. `room` is in ranges. Statuses: 106, 16, 100. */
 fontcut_answer fontcut_ranges(const uint8_t *list, size_t list_length, fontcut_range *out, size_t room);
 
 /* Writes the text of a refusal that a call has answered to the front of `out`, as FORMAT.md lists it: in UTF-8, with

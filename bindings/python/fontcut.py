@@ -19,7 +19,8 @@
 A font is any object with bytes: `bytes`, `bytearray`, a `memoryview`, an `mmap`. The characters are a `str`, or code
 points and ranges of them, both ends included: `[0x20, (0x41, 0x5A)]`, `range(0x41, 0x5B)`, `ranges("U+20, U+41-5A")`.
 A `str` always means its characters; if it looks like ranges, as "U+41-5A" does, there is a `FontcutWarning`. For layout
-and variable cuts it also means the characters that `needed` returns for it, as for the program, unless `exactly=True`.
+and variable cuts it also means the characters that `needed` returns for it, as for the program, unless `exactly=True`,
+and the glyphs of its variation sequences, which `variants` returns.
 Glyphs keep their numbers. If a font or a list of cuts is refused, the call raises `Refused`, which has the number, the
 text and the argument of the refusal. Arguments of a wrong form raise `TypeError` or `ValueError`. If memory runs out,
 the call raises `MemoryError`. The first call loads the library, and raises `LibraryMissing` if there is none.
@@ -71,7 +72,8 @@ from typing import (TYPE_CHECKING, Callable, Iterable, List, Literal, NamedTuple
 
 __all__ = ["Font", "FontcutError", "FontcutWarning", "Form", "Info", "LibraryMissing", "Losses", "NoGlyph", "Range",
            "Refused", "advances", "belongs", "check", "closure", "codes", "cut", "cut_size", "form", "glyphs", "info",
-           "is_cut", "join", "kept_glyphs", "lost", "metrics", "missing", "needed", "ranges", "slices", "unshaped"]
+           "is_cut", "join", "kept_glyphs", "lost", "metrics", "missing", "needed", "ranges", "slices", "unshaped",
+           "variants"]
 
 __version__ = "0.11.0"
 
@@ -126,7 +128,7 @@ class Losses(NamedTuple):
     first_unshaped  the first wanted code point of these scripts
     axes            how many axes the font has, if the cut has none
     colours         the tag of the first table with colours, which cuts drop, or ""
-    sequence        the code point of a wanted variation sequence of the font, which cuts drop
+    sequence        the code point of a wanted variation sequence of the font, if the cut has none
     selector        its selector
     """
 
@@ -262,6 +264,7 @@ _CALLS = {"check": _FILE, "subset": _REQUEST + _FILE + _ROOM,
           "join": _KIND + [ctypes.POINTER(_Bytes), ctypes.c_size_t] + _ROOM, "codes": _FILE + _RANGES,
           "glyphs": _FLAGS + _FILE + _LIST + _ROOM, "metrics": _FLAGS + _FILE + _LIST + _ROOM,
           "info": _FILE + [ctypes.POINTER(_Info)], "needed": _LIST + _RANGES, "ranges": _LIST + _RANGES,
+          "variants": _FLAGS + _FILE + _LIST + _ROOM,
           "refusal_text": [_Answer] + _ROOM}
 
 
@@ -455,6 +458,12 @@ def _gids(font: Union[Bytes, Font], given: Optional[Gids]) -> List[int]:
     return list(range(info(font).glyph_count))
 
 
+def _wanted_gids(font: Union[Bytes, Font], wanted: Codes, kind: int, gids: Sequence[int]) -> List[int]:
+    """The glyph numbers that are asked for of a cut of a kind. A text brings those of its variation sequences, if the
+    cut keeps sequences."""
+    return [*gids, *(variants(font, wanted) if kind in _SHAPED and isinstance(wanted, str) else ())]
+
+
 def _gids_of_sets(font: Union[Bytes, Font], given: Optional[Iterable[Optional[Gids]]], count: int) -> List[List[int]]:
     """The glyph numbers that are asked for, of so many sets."""
     if given is None:
@@ -575,7 +584,8 @@ def cut_size(font: Union[Bytes, Font], wanted: Codes, *, kind: Optional[str] = N
              gids: Optional[Gids] = None, layout_closure: bool = True, exactly: bool = False) -> int:
     """The length in bytes of the cut that `cut` makes. The cut is not made. Raises what `cut` raises."""
     file, number = _File(font), _kind(kind)
-    ranges, numbers = _wanted(wanted, number, exactly), _gids(font, gids)
+    ranges = _wanted(wanted, number, exactly)
+    numbers = _wanted_gids(font, wanted, number, _gids(font, gids))
     asked = _request(file, number, ranges, numbers, layout_closure)
     answer = _taken(_library().fontcut_subset(asked, file.at, file.length, None, 0), numbers)
     return answer.size if answer.status == _SMALL_ROOM else _done(answer).size
@@ -586,8 +596,8 @@ def cut(font: Union[Bytes, Font], wanted: Codes, *, kind: Optional[str] = None,
     """The cut of a font for the wanted characters and for the glyphs with the numbers `gids`, of a kind. Characters
     that the font does not map are ignored. A full cut is for characters alone.
 
-    For a `str`, a layout or variable cut has all characters that `needed` returns for it, as `fontcut subset --text`
-    has; with `exactly=True` it has those of the text alone.
+    For a `str`, a layout or variable cut has all characters that `needed` returns for it and all glyphs that `variants`
+    does, as `fontcut subset --text` has; with `exactly=True` it has the characters of the text alone.
 
     A layout or variable cut also keeps each glyph that GSUB may substitute for what is wanted. With
     `layout_closure=False` it does not, and is exact: with the glyph numbers of a shaped text, and the characters that
@@ -599,7 +609,8 @@ def cut(font: Union[Bytes, Font], wanted: Codes, *, kind: Optional[str] = None,
     Raises `Refused` if the font is refused or the cut would be too large; `NoGlyph` if the font has no glyph of one of
     the numbers; `ValueError` for what is not a range, and for a full cut with `gids`."""
     file, number = _File(font), _kind(kind)
-    ranges, numbers = _wanted(wanted, number, exactly), _gids(font, gids)
+    ranges = _wanted(wanted, number, exactly)
+    numbers = _wanted_gids(font, wanted, number, _gids(font, gids))
     asked, library = _request(file, number, ranges, numbers, layout_closure), _library()
     data = _written(file.length + 4096, lambda *room: _taken(
         library.fontcut_subset(asked, file.at, file.length, *room), numbers))
@@ -618,7 +629,8 @@ def closure(font: Union[Bytes, Font], wanted: Codes, gids: Gids = (), *, kind: s
     to which GSUB leads from these characters. A `str` brings the characters that its text needs; list them otherwise.
     Raises `Refused` and `NoGlyph`, as `cut` does."""
     number = _kind(kind)
-    return _closed(_File(font), number, _wanted(wanted, number, exactly), _gids(font, gids))
+    numbers = _wanted_gids(font, wanted, number, _gids(font, gids))
+    return _closed(_File(font), number, _wanted(wanted, number, exactly), numbers)
 
 
 def kept_glyphs(font: Union[Bytes, Font], *, kind: str = "full") -> List[int]:
@@ -680,9 +692,10 @@ def slices(font: Union[Bytes, Font], sets: Iterable[Codes], *, kind: Optional[st
     if isinstance(sets, str):
         raise TypeError("sets are given as a list of them, and not as one str")
     file, number = _File(font), _kind(kind)
-    one_wanted = functools.partial(_wanted, kind=number, exactly=exactly)
-    wanted = list(map(one_wanted, _items(sets, "set")))
-    lists = _gids_of_sets(font, gids, len(wanted))
+    given = cast(List[Codes], list(_items(sets, "set")))
+    wanted = list(map(functools.partial(_wanted, kind=number, exactly=exactly), given))
+    lists = [_wanted_gids(font, one, number, numbers)
+             for one, numbers in zip(given, _gids_of_sets(font, gids, len(given)))]
     if not wanted:
         _done(_library().fontcut_check(file.at, file.length))
         return []
@@ -842,6 +855,14 @@ def needed(text: str) -> str:
     "' e\\xe9\\u0301\\u25cc'"
     """
     return "".join(chr(code) for first, last in _needed(text) for code in range(first, last + 1))
+
+
+def variants(font: Union[Bytes, Font], text: str) -> List[int]:
+    """The glyphs that a font has for the variation sequences of a text, ascending: each sequence is a character and the
+    selector that follows it. `cut` asks for them by itself if a `str` is wanted of a layout or variable cut."""
+    file, data, out = _File(font), _utf8(text), (ctypes.c_uint16 * _MOST_GLYPHS)()
+    answer = _library().fontcut_variants(file.flags, file.at, file.length, data, len(data), out, len(out))
+    return out[:_done(answer).size]
 
 
 def ranges(words: Union[str, Iterable[str]]) -> List[Range]:

@@ -22,7 +22,8 @@ import font_cutting
 import font_reading
 import glyph_cutting
 from glyph_cutting import Wanted
-from layout_making import coverage, gsub_of_one, letters, ligature, ligatures, with_sets
+from layout_making import (VARIANTS, coverage, font_of_sequences, gsub_of_one, letters, ligature, ligatures,
+                           with_sets)
 import lean_cutting
 import variable_making
 from worked_cuts import BASE6, LEAN_CUT_OF_AACUTE
@@ -685,6 +686,29 @@ class Asking(unittest.TestCase):
         for text, place in (("\ud800", 0), ("ab\udfffc", 2), ("\ud83d\ude00", 0)):
             with self.assertRaisesRegex(ValueError, rf"item {place} is the lone surrogate U\+"):
                 fontcut.needed(text)
+
+    def test_variation_sequences(self) -> None:
+        """Shaped cuts for a text ask for the glyphs of its sequences by themselves, and no other cuts do."""
+        font = font_of_sequences()
+        for text, glyphs in VARIANTS:
+            self.assertEqual(fontcut.variants(font, text), glyphs)
+            self.assertEqual(fontcut.variants(fontcut.Font(font), text), glyphs)
+            kinds: List[Tuple[str, List[int]]] = [("layout", glyphs), ("variable", glyphs), ("lean", [])]
+            for kind, asked in kinds:
+                wanted = sorted({*text, *(fontcut.needed(text) if kind != "lean" else "")})
+                codes = [ord(letter) for letter in wanted]
+                made = fontcut.cut(font, codes, gids=asked, kind=kind)
+                with warnings.catch_warnings():
+                    warnings.simplefilter("ignore", fontcut.FontcutWarning)
+                    self.assertEqual(fontcut.cut(font, text, kind=kind), made)
+                    self.assertEqual(fontcut.slices(font, [text], kind=kind), [made])
+                self.assertEqual(fontcut.cut_size(font, text, kind=kind), len(made))
+            self.assertEqual(fontcut.closure(font, text), fontcut.closure(font, map(ord, fontcut.needed(text)), glyphs))
+        self.assertEqual(fontcut.variants(BASE6, "A\ufe00"), [])
+        with self.assertRaisesRegex(ValueError, "item 1 is the lone surrogate"):
+            fontcut.variants(font, "A\ud800")
+        with self.assertRaises(fontcut.Refused):
+            fontcut.variants(b"", "A")
 
     @unittest.skipUnless(os.path.exists(DEJAVU), "Debian's package fonts-dejavu-core is not installed")
     def test_what_a_cut_lacks_or_drops(self) -> None:

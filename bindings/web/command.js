@@ -6,7 +6,7 @@ import { chmodSync, closeSync, existsSync, lstatSync, mkdirSync, openSync, readF
 import { basename, dirname, join as pathOf, resolve } from 'node:path';
 import { parseArgs } from 'node:util';
 import { belongs, check, codes, cuts, cutForm, FontcutError, glyphs, init, initTexts, join, metrics, needed, ranges,
-    subset, version } from './fontcut.js';
+    subset, variants, version } from './fontcut.js';
 import { linesOfJoin } from './joined.js';
 import { KINDS, LAYOUT_TABLES, NO_GLYPH, NO_MEMORY, SHAPED, charactersOf, codesIn, kindWhere, rangeWord, shared }
     from './kinds.js';
@@ -37,7 +37,8 @@ written.
 const FLAG = { type: 'boolean' }, LIST = { type: 'string', multiple: true };
 const KIND_FLAGS = { lean: FLAG, layout: FLAG, variable: FLAG };
 // Options of the program that no command has here.
-const OF_PROGRAM = ['verbose', 'complete', 'exclude', 'exclude-file', 'gids-file', 'report', 'strict', 'drop', 'help'];
+const OF_PROGRAM = ['verbose', 'complete', 'exclude', 'exclude-file', 'gids-file', 'report', 'strict', 'drop', 'sequences',
+    'help'];
 const COMMANDS = {
     subset: {
         run: runSubset, options: {
@@ -155,9 +156,28 @@ function codesOfTexts(texts, brings) {
     return texts.flatMap((one) => charactersOf(codesOf(one)));
 }
 
-// The lists of codes of a line, each with its ranges and with what names it.
+// A word of a list for a variation sequence, a character and its selector.
+const SEQUENCE = /(?<![^\s,;])U\+([0-9A-F]{1,6})\+([0-9A-F]{1,6})(?![^\s,;#])/gi;
+
+// The sequence of a word, as a text, or undefined where it names none.
+function sequenceOf(code, selector) {
+    const [first, second] = [code, selector].map((one) => Number.parseInt(one, 16));
+    const isOne = first <= 0x10FFFF && second <= 0x10FFFF
+        && /^[\u180B-\u180D\u180F\uFE00-\uFE0F\u{E0100}-\u{E01EF}]$/u.test(String.fromCodePoint(second));
+    return isOne ? String.fromCodePoint(first, second) : undefined;
+}
+
+// The sequences of a list, and its ranges, among which their characters are.
+function namedBy(list) {
+    const named = [...list.replace(/#[^\n]*/g, '').matchAll(SEQUENCE)];
+    const plain = list.replace(SEQUENCE, (word, code, selector) => sequenceOf(code, selector) ? `U+${code}` : word);
+    return { ranges: ranges(plain), sequences: named.map(([, ...codes]) => sequenceOf(...codes)) };
+}
+
+// The lists of codes of a line, each with its ranges, its sequences and with what names it.
 function listsOf(given, words) {
-    const bad = words.find((word) => !/^(all|everything|U\+[0-9A-F]{1,6}(-(U\+)?[0-9A-F]{1,6})?)$/i.test(word));
+    const known = /^(all|everything|U\+[0-9A-F]{1,6}((-(U\+)?|\+)[0-9A-F]{1,6})?)$/i;
+    const bad = words.find((word) => !known.test(word));
     if (bad !== undefined) {
         throw new Failed(2, `bad word ${bad}: write U+41, U+41-5A or all, and texts with --text`);
     }
@@ -165,7 +185,7 @@ function listsOf(given, words) {
     // Only in a file can a line have the columns of `codes --glyphs`, which have blanks between them.
     const lists = (given.unicodes ?? []).map((list) => ['--unicodes', list.replaceAll(' ', ',')]);
     const every = [...words.map((word) => ['', word === 'everything' ? 'all' : word]), ...lists, ...files];
-    return every.map(([option, list]) => ({ option, ranges: ranges(list) }));
+    return every.map(([option, list]) => ({ option, ...namedBy(list) }));
 }
 
 // Glyph numbers of lists, such as 5,7-9,0x1F.
@@ -203,11 +223,15 @@ function runSubset(given, [font, out, ...words]) {
     } else {
         keepItself(given, out, font, data, kind);
     }
-    writeFont(out, refusing(given, font, data, () =>
-        cutOf(data, { unicodes, gids, kind, layoutClosure: !given['no-layout-closure'] })));
+    const isShaped = SHAPED.includes(kind), sequences = isShaped ? lists.flatMap((one) => one.sequences) : [];
+    const drawn = () => isShaped && !isAll
+        ? [...texts.map((one) => one.text), ...sequences].flatMap((one) => [...variants(data, one)]) : [];
+    writeFont(out, refusing(given, font, data, () => cutOf(data,
+        { unicodes, gids: isAll ? gids : [...gids, ...drawn()], kind, layoutClosure: !given['no-layout-closure'] })));
     if (!given.quiet) {
         const asked = { wanted: pairsOf(unicodes), named: pairsOf([...own, ...listed]), texts: pairsOf(own),
-            hasGlyphs: isAll || Boolean(given.gids) };
+            hasGlyphs: isAll || Boolean(given.gids),
+            lacking: [...new Set(sequences)].filter((one) => !variants(data, one).length) };
         const paths = (given.text ?? []).filter((one) => one !== '-' && isFile(one)).map((path) =>
             `${shownName(path)} is a file: --text keeps the characters of its path, --text-file those in it`);
         say([...emptyOf(given, texts, lists), ...lossesOf(shownName(font), data, kind, asked), ...paths]);

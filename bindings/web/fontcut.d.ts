@@ -18,8 +18,8 @@ export interface OfKind {
 
 /**
  * The characters of a text, code points and ranges (or range words: 'U+20-7E, U+4??'), or both. In layout and variable
- * cuts a text brings all characters that `needed` returns for it, unless `exactly` is asked for. That and range words
- * need `initTexts`.
+ * cuts a text brings all characters that `needed` returns for it, unless `exactly` is asked for, and the glyphs that
+ * `variants` returns. `needed` and range words need `initTexts`.
  */
 export interface Characters {
     text?: string;
@@ -103,7 +103,7 @@ export interface Losses {
     axes: number;
     /** The tag of the first table with colours, which cuts drop, or ''. */
     colours: string;
-    /** The code point of a wanted variation sequence of the font, which cuts drop, and its selector. */
+    /** The code point of a wanted variation sequence of the font, if the cut has none, and its selector. */
     sequence: number;
     selector: number;
 }
@@ -186,6 +186,11 @@ export function ranges(words: string): [first: number, last: number][];
 export function codes(font: Bytes | Font): [first: number, last: number][];
 /** The glyph of each character of a text, or of each code point, 0 if there is none. */
 export function glyphs(font: Bytes | Font, wanted: string | Iterable<number>): Uint16Array;
+/**
+ * The glyphs that a font has for the variation sequences of a text, ascending: each sequence is a character and the
+ * selector that follows it.
+ */
+export function variants(font: Bytes | Font, text: string): Uint16Array;
 /** The advance width and the left side bearing of each glyph, in font units. */
 export function metrics(font: Bytes | Font, glyphs: Iterable<number>): Metric[];
 /** The numbers of a whole font. */

@@ -134,9 +134,13 @@ function gidsOf(font, { gids = [] }) {
 // The flags of cuts of a font, which keep what GSUB may put if nothing else is said.
 const flagsOf = (font, { layoutClosure = true } = {}) => flagOf(font) | (layoutClosure ? CLOSES : 0);
 
+// The glyphs of the variation sequences of a text, in cuts that keep sequences.
+const variantsFor = (font, text, kind) => text && WITH_LINKS.includes(kind) ? Array.from(variants(font, text)) : [];
+
 // What is wanted of a font, as the ranges and the glyphs of a request.
 function wantedOf(font, wanted, { kind, exactly }) {
-    return { ranges: rangesOf(wanted, { kind, exactly }), gids: gidsOf(font, wanted) };
+    const gids = [...gidsOf(font, wanted), ...variantsFor(font, wanted.text, kind)];
+    return { ranges: rangesOf(wanted, { kind, exactly }), gids };
 }
 
 // A request of a font with the options of its cut: its address, the file, and what is wanted.
@@ -327,6 +331,15 @@ export function glyphs(font, wanted) {
         const [file, list] = [areas.file(font), areas.numbers(Uint32Array, known)];
         return areas.written(known.length, 2, (...room) =>
             areas.answer('glyphs', flagOf(font), ...file, ...list, ...room));
+    }).buffer);
+}
+
+/** The glyphs that a font has for the variation sequences of a text, ascending. */
+export function variants(font, text) {
+    charactersOf(text);
+    return new Uint16Array(within((areas) => {
+        const [file, data] = [areas.file(font), areas.copy(new TextEncoder().encode(text))];
+        return areas.written(64, 2, (...room) => areas.answer('variants', flagOf(font), ...file, ...data, ...room));
     }).buffer);
 }
 

@@ -121,15 +121,22 @@ function noneOf(font, named) {
 
 /**
  * The lines that are said of a cut of a font of a kind, which messages call by a name: of characters that are `wanted`,
- * of those of them that are `named` and not added, and of those that stand in `texts`, as ranges.
+ * of those of them that are `named` and not added, of those that stand in `texts`, as ranges, and of sequences that the
+ * font is `lacking`.
  */
-export function* lossesOf(name, font, kind, { wanted, named, texts, hasGlyphs }) {
+export function* lossesOf(name, font, kind, { wanted, named, texts, hasGlyphs, lacking = [] }) {
     const none = hasGlyphs ? undefined : noneOf(font, merged(named));
     if (none) {
         yield `${name} ${none}`;
         return;
     }
     yield* missingOf(name, font, merged(texts));
+    if (lacking.length) {
+        const [first] = lacking.map((one) => Array.from(one, (letter) => letter.codePointAt(0))).sort(
+            ([a, b], [c, d]) => b - d || a - c);
+        const words = lacking.length === 1 ? 'a wanted sequence:' : 'wanted sequences, such as';
+        yield `${name} lacks ${words} ${wordOf(first[0])}+${wordOf(first[1]).slice(2)}`;
+    }
     const all = merged(wanted), scripts = scriptsOf(font, kind, all), found = lost(font, { unicodes: all, kind });
     if (scripts.length) {
         yield `${name} shapes ${scripts.join(', ')}, which this cut drops: add --layout`;
@@ -138,8 +145,8 @@ export function* lossesOf(name, font, kind, { wanted, named, texts, hasGlyphs })
         yield `${name} varies ${axesOf(font).join(', ')}: add --variable, or --quiet`;
     }
     if (found.sequence) {
-        yield `${name} has variation sequences, such as ${wordOf(found.sequence)} ${wordOf(found.selector)}, `
-            + 'which cuts drop';
+        yield `${name} has variation sequences, such as ${wordOf(found.sequence)} ${wordOf(found.selector)}: `
+            + 'add --layout';
     }
     if (found.colours) {
         yield `${name} has colours (${found.colours}), which cuts drop`;

@@ -14,7 +14,7 @@
 import { createHash } from 'node:crypto';
 import { promisify } from 'node:util';
 import { brotliCompress, constants } from 'node:zlib';
-import { Font, FontcutError, init, initTexts, needed, ranges, subset } from './fontcut.js';
+import { Font, FontcutError, init, initTexts, needed, ranges, subset, variants } from './fontcut.js';
 import { KINDS, NO_MEMORY, SHAPED } from './kinds.js';
 
 const LONGEST_QUERY = 8000; // characters
@@ -61,16 +61,22 @@ function wantedBy(query) {
     const letters = Array.from(texts.join(''), (letter) => `U+${letter.codePointAt(0).toString(16)}`);
     try {
         // Each on a line of its own: a comment ends with its list, and no two lists read like a line of `codes`.
-        return { kind, wanted: ranges([...lists, ...letters].join('\n')) };
+        return { kind, wanted: ranges([...lists, ...letters].join('\n')), texts: asked.getAll('text') };
     } catch (error) {
         throw new Answer(400, error.message.replace('fontcut: ', ''));
     }
 }
 
-// The cut, from a font that was tested once.
-function made(font, wanted, kind) {
+// The glyphs of the variation sequences of texts, in cuts that keep sequences.
+function gidsOf(font, texts, kind) {
+    const all = SHAPED.includes(kind) ? texts.flatMap((text) => [...variants(font, text)]) : [];
+    return [...new Set(all)].sort((one, other) => one - other);
+}
+
+// What work with a font that was tested once returns.
+function made(work) {
     try {
-        return subset(font, { unicodes: wanted, kind, quiet: true });
+        return work();
     } catch (error) {
         if (!(error instanceof FontcutError)) {
             throw error;
@@ -103,15 +109,16 @@ async function answered(fonts, request) {
     if (!font) {
         throw new Answer(404, 'there is no such font');
     }
-    const { kind, wanted } = wantedBy(url.search.slice(1));
+    const { kind, wanted, texts } = wantedBy(url.search.slice(1));
     if (font.refusal) {
         throw new Answer(502, `the font is refused: ${font.refusal}`);
     }
-    const tag = `"${digestOf(`${font.digest} ${kind} ${wanted.join(' ')}`)}"`;
+    const gids = made(() => gidsOf(font.font, texts, kind));
+    const tag = `"${digestOf([font.digest, kind, wanted.join(' '), ...gids].join(' '))}"`;
     if ((request.headers.get('If-None-Match') ?? '').includes(tag)) {
         return new Response(null, { status: 304, headers: { ...HEADERS, ETag: tag } });
     }
-    const cut = made(font.font, wanted, kind);
+    const cut = made(() => subset(font.font, { unicodes: wanted, gids, kind, quiet: true }));
     if (!/(^|,)\s*br\s*(;\s*q=(?!0(\.0*)?\s*(,|$))|,|$)/.test(request.headers.get('Accept-Encoding') ?? '')) {
         return new Response(cut, { headers: { ...HEADERS, ETag: tag, 'Content-Length': String(cut.length) } });
     }

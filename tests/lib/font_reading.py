@@ -219,6 +219,33 @@ def mapping(cmap: bytes, count: int) -> dict[int, int]:
     return {code: glyph for code, glyph in glyphs.items() if 0 < glyph < count}
 
 
+def members_of(table: bytes, at: int, size: int) -> list[tuple[int, Optional[int]]]:
+    """The characters of a list of ranges, whose records have four bytes, and no glyphs; or of a list of mappings, with
+    their glyphs."""
+    found: list[tuple[int, Optional[int]]] = []
+    for place in range(at + 4, at + 4 + size * u32(table, at), size) if at else []:
+        first = u32(table, place) >> 8
+        if size == 4:
+            found += [(code, None) for code in range(first, first + 1 + table[place + 3])]
+        else:
+            found.append((first, u16(table, place + 3)))
+    return found
+
+
+def sequences(cmap: bytes) -> dict[tuple[int, int], Optional[int]]:
+    """The variation sequences of a table cmap (format 14), by character and selector: their glyphs, or none for that of
+    the character."""
+    for record in range(u16(cmap, 2)):
+        platform, encoding, offset_of = struct.unpack_from(">HHI", cmap, 4 + 8 * record)
+        if (platform, encoding, u16(cmap, offset_of)) == (0, 5, 14):
+            table = cmap[offset_of:]
+            rows = [(u32(table, at) >> 8, u32(table, at + 3), u32(table, at + 7))
+                    for at in range(10, 10 + 11 * u32(table, 6), 11)]
+            return {(code, selector): glyph for selector, plain, others in rows
+                    for code, glyph in [*members_of(table, plain, 4), *members_of(table, others, 5)]}
+    return {}
+
+
 def metrics(file: bytes) -> list[tuple[int, int]]:
     """The advance width and the left side bearing of each glyph: past the pairs of `hmtx` the last advance."""
     hmtx, pairs = table(file, b"hmtx"), u16(table(file, b"hhea"), 34)

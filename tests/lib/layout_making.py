@@ -238,3 +238,10 @@ def font_of_sequences() -> bytes:
     sequences += bytes.fromhex("0E0100") + struct.pack(">II", 0, header + len(default)) + default + other
     cmap = struct.pack(">HHHHIHHIHHI", 0, 3, 0, 4, 28, 0, 5, 28 + len(groups), 3, 10, 28) + groups + sequences
     return letters({b"cmap": cmap, b"GPOS": ALL_SCRIPTS})
+
+
+# Texts, and the glyphs that the font of `font_of_sequences` has for their variation sequences.
+VARIANTS: list[tuple[str, list[int]]] = [
+    ("", []), ("AB", []), ("A\ufe00", [1]), ("B\U000e0100", [5]), ("B\U000e0100 A\ufe00A\ufe00", [1, 5]),
+    ("A\U000e0100B\ufe00", []), ("\ufe00A", []), ("A\ufe00\U000e0100", [1]), ("B \U000e0100", []),
+    ("B\u200d\U000e0100\U000e0100", []), ("\u0628\ufe00\u0e01\ufe0f\U000e0100\ufe00", [])]

@@ -21,6 +21,8 @@
  *                                     bytes; ROOM is a number of glyphs
  *     metrics FLAGS FONT GLYPHS OUT ROOM
  *                                     the same, of glyphs and their metrics
+ *     variants FLAGS FONT TEXT OUT ROOM
+ *                                     the same, of a text and glyphs
  *     info FONT OUT                   OUT gets the bytes of the numbers
  *     nothing KIND FONT               each call with areas of no bytes, for the font where it takes one: prints `same`
  *                                     where it answers the same for NULL and for an address
@@ -356,12 +358,14 @@ static void say_filled(int is_first, fontcut_answer answer, const char *path, co
         write_file(path, out, written);
 }
 
-/* The calls that look up a number for each of a list: glyphs of codes, and metrics of glyphs. */
+/* The calls that look something up: glyphs of codes, metrics of glyphs, and glyphs of the sequences of a text. */
 static fontcut_answer look_up(char **words, uint32_t flags, file font, file given, uint8_t *out, size_t room)
 {
     if (words[0][0] == 'g')
         return fontcut_glyphs(flags, font.at, font.length, (const uint32_t *)(const void *)given.at,
                               given.length / sizeof(uint32_t), (uint16_t *)(void *)out, room);
+    if (words[0][0] == 'v')
+        return fontcut_variants(flags, font.at, font.length, given.at, given.length, (uint16_t *)(void *)out, room);
     return fontcut_metrics(flags, font.at, font.length, (const uint16_t *)(const void *)given.at,
                            given.length / sizeof(uint16_t), (fontcut_metric *)(void *)out, room);
 }
@@ -370,7 +374,7 @@ static void do_look_up(int is_first, char **words)
 {
     uint32_t flags = (uint32_t)strtoul(words[1], NULL, 10);
     file font = read_file(words[2]), given = read_file(words[3]);
-    size_t item = words[0][0] == 'g' ? sizeof(uint16_t) : sizeof(fontcut_metric);
+    size_t item = words[0][0] == 'm' ? sizeof(fontcut_metric) : sizeof(uint16_t);
     size_t room = (size_t)strtoull(words[5], NULL, 10);
     uint8_t *out = guarded(room * item), *other = guarded(room * item);
     fontcut_answer answer = look_up(words, flags, font, given, out, room);
@@ -511,7 +515,9 @@ static int answers_of_lookups(file font, int is_null, fontcut_answer *answers)
     answers[8] = fontcut_glyphs(flags, font.at, font.length, codes, 0, glyphs, 0);
     answers[9] = fontcut_metrics(flags, font.at, font.length, glyphs, 0, metrics, 0);
     answers[10] = fontcut_lost(&request, none, 0, &losses);
-    return 11;
+    answers[11] = fontcut_variants(0, font.at, font.length, none, 0, glyphs, 0);
+    answers[12] = fontcut_variants(flags, font.at, font.length, none, 0, glyphs, 0);
+    return 13;
 }
 
 static void do_nothing(int is_first, char **words)
@@ -594,7 +600,7 @@ static void do_line(int is_first, char **words, int count)
         do_form(is_first, words);
     else if (!strcmp(words[0], "belongs"))
         do_belongs(is_first, words);
-    else if (!strcmp(words[0], "glyphs") || !strcmp(words[0], "metrics"))
+    else if (!strcmp(words[0], "glyphs") || !strcmp(words[0], "metrics") || !strcmp(words[0], "variants"))
         do_look_up(is_first, words);
     else if (!strcmp(words[0], "info"))
         do_info(is_first, words);

@@ -47,6 +47,9 @@ static const uint16_t GLYPHS[] = {2, 0, 1};
 
 static const char TEXT[] = "e\314\201\n(\330\250 \352\260\201", LIST[] = "U+41-43, 61; U+1??";
 
+/* A and B, each with a selector of variations. */
+static const char VARIED[] = "A\357\270\200B\363\240\204\200";
+
 /* The calls that take a kind, of which each is made for all kinds, and then those that take none. */
 #define OF_KINDS_OF(name) name, "lean_" name, "layout_" name, "variable_" name
 static const char *const NAMES[] = {
@@ -55,7 +58,7 @@ static const char *const NAMES[] = {
     OF_KINDS_OF("closure"),        OF_KINDS_OF("kept"),             OF_KINDS_OF("belongs"),
     OF_KINDS_OF("cut_form"),       OF_KINDS_OF("join"),
     "codes", "check", "glyphs", "metrics", "info", "refusal_text", "checked_glyphs", "checked_metrics", "needed",
-    "ranges", "lost",
+    "ranges", "variants", "lost",
 };
 enum { CALLS = sizeof NAMES / sizeof *NAMES, BY_REQUEST = 6 * KINDS, OF_KINDS = 11 * KINDS };
 
@@ -131,6 +134,9 @@ static fontcut_answer do_call(int call)
         return fontcut_needed((const uint8_t *)TEXT, sizeof TEXT - 1, ranges, ROOM / sizeof *ranges);
     case 9:
         return fontcut_ranges((const uint8_t *)LIST, sizeof LIST - 1, ranges, ROOM / sizeof *ranges);
+    case 10:
+        return fontcut_variants(flags, font.at, font.length, (const uint8_t *)VARIED, sizeof VARIED - 1,
+                                (uint16_t *)(void *)room, ROOM / sizeof(uint16_t));
     default:
         return fontcut_lost(&wanted, font.at, font.length, (fontcut_losses *)(void *)room);
     }

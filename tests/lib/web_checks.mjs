@@ -380,7 +380,7 @@ const growing = {
             await font.add('\uD800 \uDC00a');
             page.shows(cutFor(' a', kind));
         }
-        for (const read of [fontcut.needed, fontcut.ranges]) {
+        for (const read of [fontcut.needed, fontcut.ranges, (text) => fontcut.variants(bytes, text)]) {
             assert.throws(() => read('a\uDC00'),
                 { name: 'RangeError', message: 'fontcut: item 1 is the lone surrogate U+DC00, which is no character' });
         }

@@ -295,7 +295,7 @@ def _add_slice(commands: argparse._SubParsersAction[CommandParser]) -> None:
            full="write full cuts")
     _as_is(command)
     command.add_argument("--drop", metavar="TABLES", action="append",
-                         help="with --layout or --variable, cut fonts as if they lacked these layout tables, as "
+                         help="with --layout or --variable, cut fonts without these layout tables, as "
                               "GSUB,kern")
     command.add_argument("--rest", action="store_true",
                          help="write the characters that are left of the scripts of the slices, and of no script, as a "
@@ -401,7 +401,8 @@ def _add_prepare(commands: argparse._SubParsersAction[CommandParser]) -> None:
     command.add_argument("--names", choices=("keep", "least"), default="keep",
                          help="keep all names of the font, or in English alone those that systems need (keep)")
     command.add_argument("--kern", choices=("auto", "keep", "drop"), default="auto",
-                         help="keep the table kern: auto keeps it where GPOS has no kerning for a script (auto)")
+                         help="keep the table kern: auto keeps it where browsers take it and GPOS does not kern a script "
+                              "(auto)")
     command.add_argument("--force", action="store_true", help="write over another whole font")
     command.add_argument("--json", action="store_true", help="print OUT.json, and not what was dropped")
     command.set_defaults(run=_run_prepare)

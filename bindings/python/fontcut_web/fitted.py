@@ -2,7 +2,6 @@
 cut is as small as those of other subsetters, and joins with no other."""
 from __future__ import annotations
 
-import contextlib
 import io
 import tempfile
 from typing import Iterable, List, Mapping, Sequence, Tuple
@@ -13,16 +12,21 @@ from fontTools.ttLib import TTFont
 from . import characters, preparing, shaping
 from .common import LAYOUT_TABLES, Refused
 from .faces import axes_of
-from .inputs import as_file, file_in
+from .inputs import file_in
 from .preparing import PrepareOptions
 from .sequences import without_selectors
 from .shaping import Setting, place_of
 
 
+def _how(codes: Sequence[int], features: Iterable[str]) -> PrepareOptions:
+    """How a font is prepared for some of its characters, with the features that shapers use and others."""
+    return PrepareOptions(codes, sorted({*preparing.default_features(), *features}), names="least")
+
+
 def fitted(font: fontcut.Font, codes: Sequence[int], kind: str, features: Iterable[str] = ()) -> fontcut.Font:
     """A font, prepared for cuts of a kind for some of its characters, with the features that shapers use and others.
     Raises `Refused` where that cannot be."""
-    how = PrepareOptions(codes, sorted({*preparing.default_features(), *features}), names="least")
+    how = _how(codes, features)
     made = preparing.with_layout_for(font.data, how, sorted(characters.scripts_of(map(chr, codes))))
     try:
         found = fontcut.Font(made)
@@ -58,9 +62,8 @@ def check(path: str, font: fontcut.Font, cut: bytes, kind: str, texts: Sequence[
     texts = list(filter(None, map(str.strip, plain)))
     if not shaping.is_there() or not texts:
         return
-    with tempfile.TemporaryDirectory() as folder, contextlib.ExitStack() as opened:
-        # Programs of the command line do not take every name of a file.
-        whole = opened.enter_context(as_file(path, font)) if path.isascii() else file_in(folder, "whole.ttf", font.data)
+    with tempfile.TemporaryDirectory() as folder:
+        whole = file_in(folder, "whole.ttf", preparing.as_taken(font.data, _how((), ())))
         made = file_in(folder, "cut.ttf", cut)
         for place in _places(font.data, kind):
             for features in sets:

@@ -14,7 +14,7 @@ from fontcut_output import print_line, read, write
 
 from . import characters, preparing, shaping
 from .common import KINDS, Refused, UsageError, codes_in
-from .inputs import accepted, as_file, file_in, mapped, read_pages, sha256
+from .inputs import accepted, file_in, mapped, read_pages, sha256
 from .preparing import Limit, Prepared, PrepareOptions
 from .replaced import check_unpacked, is_same
 from .sets import codes_of, range_words, some_words
@@ -133,7 +133,8 @@ def _check_shapes(path: str, font: fontcut.Font, one: Prepared, how: PrepareOpti
     """Raises `Otherwise` for a text that the prepared font shapes otherwise, but for features that were dropped, and
     for characters that the font lacks."""
     off, most = _off(one, how), _ROUNDED if how.limits else 0
-    with tempfile.TemporaryDirectory() as folder, as_file(path, font) as whole:
+    with tempfile.TemporaryDirectory() as folder:
+        whole = file_in(folder, "whole.ttf", preparing.as_taken(font.data, how))
         made = file_in(folder, "prepared.ttf", one.data)
         for before, now in _places(one, how.limits):
             settings = Setting(features=off, place=place_of(before)), Setting(features=off, place=place_of(now))

@@ -5,6 +5,7 @@ from __future__ import annotations
 import contextlib
 import io
 import re
+import struct
 from typing import Any, Dict, Iterable, Iterator, List, Mapping, NamedTuple, Optional, Sequence, Set, Tuple, Union
 
 import fontTools
@@ -26,6 +27,10 @@ _TAG = re.compile(r"[\x20-\x7e]{4}")
 _NUMBER = r"-?\d+(?:\.\d+)?"
 _LIMIT = re.compile(rf"([\x21-\x7e]{{4}})=(?:(drop)|({_NUMBER})(?::({_NUMBER}))?)")
 
+# The most pairs of a subtable of `kern` that browsers take: its length has 16 bits, and a pair has 6 bytes. Of a table
+# with a longer one, which some fonts have, they take nothing.
+_MOST_PAIRS = 65_536 // 6
+
 # Tables that are made for some characters where outlines stay as they are, and others that fontTools reads for them.
 _FITTED = frozenset("BASE GDEF GPOS GSUB HVAR VVAR kern name".split())
 _SMALL = frozenset("OS/2 STAT cmap fvar head hhea maxp post".split())
@@ -36,7 +41,7 @@ Limit = Union[None, float, Tuple[float, float]]
 
 class PrepareOptions(NamedTuple):
     """What stays of a font: characters, features (all where it is `None`), hinting, axes, all names or the least, and
-    table `kern`, always, never, or where GPOS has no kerning."""
+    table `kern`, always, never, or where browsers take it and GPOS has no kerning."""
 
     codes: Sequence[int]
     features: Optional[Sequence[str]]
@@ -135,11 +140,34 @@ def _kerned(table: Any, script: str) -> bool:
     return all(one and any(features[index].FeatureTag == _KERN for index in one.FeatureIndex) for one in languages)
 
 
+def _is_taken(kern: bytes) -> bool:
+    """Whether browsers take a table `kern` of version 0 (OpenType 1.9, kern, Format 0)."""
+    at = 4
+    for _ in range(struct.unpack_from(">H", kern, 2)[0] if len(kern) >= 4 else 0):
+        if len(kern) < at + 8:
+            break
+        length, coverage, pairs = struct.unpack_from(">2xHHH", kern, at)
+        if coverage >> 8 == 0 and pairs > _MOST_PAIRS:
+            return False
+        at += length
+    return True
+
+
+def as_taken(data: bytes, how: PrepareOptions) -> bytes:
+    """A font that is accepted, as browsers take it: where `kern` is left to them, without one that they drop."""
+    reader = TTFont(io.BytesIO(data), lazy=True).reader
+    if how.kern != "auto" or _KERN not in reader or _is_taken(reader[_KERN]):
+        return data
+    return with_tables(data, {_KERN: None})
+
+
 def _keeps_kern(font: TTFont, how: PrepareOptions, scripts: Iterable[str]) -> bool:
     """Whether table `kern` stays."""
     if how.kern != "auto":
         return how.kern == "keep"
     if how.features is not None and _KERN not in how.features:
+        return False
+    if _KERN in font and not _is_taken(font.reader[_KERN]):
         return False
     table = font["GPOS"].table if "GPOS" in font else None
     return not table or not table.ScriptList or not all(_kerned(table, script) for script in scripts)

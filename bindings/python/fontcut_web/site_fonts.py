@@ -247,7 +247,8 @@ def _cut(run: Run, base: Base, page: SitePage, mode: str, known: Known) -> bytes
             others: Set[str] = set().union(*(one.others for one in written))
             said = Said(run.progress, base.name)
             return shaped.exact_cut(base.path, base.font, [shown], base.kind, said, others, known).data
-        return fontcut.cut(base.font, mapped(base.font, letters_with(shown, written)), kind=base.kind)
+        drawn = fontcut.variants(base.font, shown.text) if base.kind in SHAPED else None
+        return fontcut.cut(base.font, mapped(base.font, letters_with(shown, written)), kind=base.kind, gids=drawn)
     except fontcut.Refused as refusal:
         raise Refused(f"{base.settings.file}: {refusal}") from refusal
 

@@ -58,10 +58,12 @@ def _check_shapes(given: argparse.Namespace, font: fontcut.Font, source: str, cu
 
 
 def _closed(given: argparse.Namespace, font: fontcut.Font, shown: Sequence[Shown]) -> Cut:
-    """The cut for the characters of pages; where it is to be shaped, also for those that a shaper takes for them."""
-    of_page = letters_of if given.kind in SHAPED else _letters
-    kept = mapped(font, set().union(*map(of_page, shown)))
-    return Cut(fontcut.cut(font, kept, kind=given.kind), kept, {}, [])
+    """The cut for the characters of pages; where it is to be shaped, also for those that a shaper takes for them, and
+    for the glyphs of their variation sequences."""
+    is_shaped = given.kind in SHAPED
+    kept = mapped(font, set().union(*map(letters_of if is_shaped else _letters, shown)))
+    drawn = set().union(*(fontcut.variants(font, page.text) for page in shown)) if is_shaped else None
+    return Cut(fontcut.cut(font, kept, kind=given.kind, gids=drawn), kept, {}, [])
 
 
 def _letters(page: Shown) -> Set[str]:

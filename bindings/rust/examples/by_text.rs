@@ -1,10 +1,22 @@
 //! Cuts a font for each text FOLDER/0.txt, FOLDER/1.txt and so on, and writes FOLDER/0.ttf and so on. A last word takes
-//! the characters of the texts alone:
+//! the characters and variation sequences of the texts alone:
 //!
 //!     by_text FONT full|lean|layout|variable FOLDER [exactly]
-use fontcut::{Font, Kind};
+use fontcut::{Cut, Font, Kind, Wanted};
 use std::error::Error;
 use std::path::Path;
+
+/// The cut of a kind for the characters and sequences of a text alone.
+fn own_cut(font: &Font<'_>, kind: Kind, text: &str) -> Result<Cut, fontcut::Error> {
+    let codes = text.chars().collect();
+    if matches!(kind, Kind::Full | Kind::Lean) {
+        return font.cut(kind, &codes);
+    }
+    let glyphs = font.variants(text)?;
+    let mut wanted = Wanted { codes, glyphs };
+    wanted.glyphs = font.closure(kind, &wanted)?;
+    font.exact_cut(kind, &wanted)
+}
 
 fn main() -> Result<(), Box<dyn Error>> {
     let words: Vec<String> = std::env::args().skip(1).collect();
@@ -28,7 +40,7 @@ fn main() -> Result<(), Box<dyn Error>> {
         }
         let text = std::fs::read_to_string(&path)?;
         let cut = if is_exact {
-            font.cut(kind, &text.chars().collect())?
+            own_cut(&font, kind, &text)?
         } else {
             font.cut_text(kind, &text)?
         };

@@ -156,6 +156,15 @@ extern "C" {
         out: *mut Range,
         room: usize,
     ) -> Answer;
+    pub(crate) fn fontcut_variants(
+        flags: u32,
+        font: *const u8,
+        font_length: usize,
+        text: *const u8,
+        text_length: usize,
+        out: *mut u16,
+        room: usize,
+    ) -> Answer;
     pub(crate) fn fontcut_ranges(
         list: *const u8,
         list_length: usize,

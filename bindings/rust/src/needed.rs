@@ -1,6 +1,8 @@
 //! The characters that a text needs: its own, and those that a shaper takes for them or puts in beside them.
 //! docs/FORMAT.md has the table.
-use crate::calls::{filled, fontcut_lost, fontcut_needed, Request, DONE};
+use crate::calls::{
+    filled, fontcut_lost, fontcut_needed, fontcut_variants, Request, CHECKED, CLOSES, DONE,
+};
 use crate::{Cut, Error, Font, Kind, Losses, Ranges};
 
 /// The characters that a text needs: its own, and those that a shaper takes for them or puts in beside them. A layout
@@ -29,8 +31,28 @@ pub fn needed(text: &str) -> Result<Ranges, Error> {
 }
 
 impl Font<'_> {
+    /// The glyphs that the font has for the variation sequences of a text, ascending: each sequence is a character and the
+    /// selector that follows it. [`Font::cut_text`] wants them.
+    ///
+    /// # Errors
+    ///
+    /// 16 if out of memory.
+    pub fn variants(&self, text: &str) -> Result<Vec<u16>, Error> {
+        let font = self.bytes;
+        // SAFETY: the font was accepted, the places and the lengths are those of slices; the call writes to its room
+        // alone, which is a vector's own, and to the front of it as many glyphs as it says.
+        let variants = unsafe {
+            filled(64, |out, room| {
+                let (first, length) = (text.as_ptr(), text.len());
+                fontcut_variants(CHECKED, font.as_ptr(), font.len(), first, length, out, room)
+            })
+        };
+        variants.map_err(Error::of_one_file)
+    }
+
     /// The cut of a kind for a text: what the program makes with `--text`. Layout and variable cuts have all characters
-    /// that the text needs ([`needed`]); full and lean cuts, which are not shaped, have those of the text. For the
+    /// that the text needs ([`needed`]) and the glyphs of its variation sequences ([`Font::variants`]); full and lean
+    /// cuts, which are not shaped, have the characters of the text. For the
     /// characters of the text alone in any kind of cut, give them to [`Font::cut`].
     ///
     /// # Errors
@@ -50,11 +72,12 @@ impl Font<'_> {
     /// # }
     /// ```
     pub fn cut_text(&self, kind: Kind, text: &str) -> Result<Cut, Error> {
-        let wanted = match kind {
-            Kind::Layout | Kind::Variable => needed(text)?,
-            Kind::Full | Kind::Lean => text.chars().collect(),
+        let (codes, glyphs) = match kind {
+            Kind::Layout | Kind::Variable => (needed(text)?, self.variants(text)?),
+            Kind::Full | Kind::Lean => (text.chars().collect(), Vec::new()),
         };
-        self.cut(kind, &wanted)
+        self.cut_by(kind, &Request::new(kind, CLOSES, &codes, &glyphs))
+            .map_err(Error::of_one_file)
     }
 
     /// What a cut of a kind for the wanted characters lacks or drops of what they need, as the program says it. The cut is

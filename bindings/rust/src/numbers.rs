@@ -50,7 +50,7 @@ pub struct Losses {
     pub axes: u32,
     /// The tag of the first table with colours, which cuts drop: its four bytes as a number, the first one highest.
     pub colours: u32,
-    /// The character of a wanted variation sequence of the font, which cuts drop.
+    /// The character of a wanted variation sequence of the font, if the cut has none.
     pub sequence: u32,
     /// Its selector.
     pub selector: u32,

@@ -276,6 +276,32 @@ fn the_version_is_that_of_the_crate() {
     );
 }
 
+/// U+514E with U+E0101 has glyph 16650 of its own in VL Gothic, and 4002 alone, as fontTools reads its table.
+#[test]
+fn glyphs_of_sequences() -> Result<(), Box<dyn std::error::Error>> {
+    let Ok(file) = std::fs::read("/usr/share/fonts/truetype/vlgothic/VL-Gothic-Regular.ttf") else {
+        return Ok(());
+    };
+    let font = Font::new(&file)?;
+    let text = "\u{514E}\u{E0101} \u{514E}";
+    let glyphs = font.variants(text)?;
+    assert_eq!(
+        (glyphs.as_slice(), font.glyphs(['\u{514E}'])),
+        (&[16650][..], vec![4002])
+    );
+    assert_eq!(font.variants("\u{514E} \u{E0101}")?, []);
+    let mut wanted = Wanted {
+        codes: needed(text)?,
+        glyphs,
+    };
+    wanted.glyphs = font.closure(Kind::Layout, &wanted)?;
+    assert_eq!(
+        font.cut_text(Kind::Layout, text)?,
+        font.exact_cut(Kind::Layout, &wanted)?
+    );
+    Ok(())
+}
+
 #[test]
 fn texts_and_lists() -> Result<(), Error> {
     for (text, wanted) in [

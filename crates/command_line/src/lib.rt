@@ -55,6 +55,17 @@ pub enum Verbosity {
     Verbose,
 }
 
+/// What of a font `codes` prints.
+#[derive(Clone, Copy, Debug, PartialEq, Eq)]
+pub enum Listing {
+    /// Its codes, as ranges.
+    Codes,
+    /// Each code, with its glyph and advance width.
+    Glyphs,
+    /// Its variation sequences.
+    Sequences,
+}
+
 /// What a command line asks for.
 #[derive(Drop)]
 pub enum Task<'a> {
@@ -62,9 +73,8 @@ pub enum Task<'a> {
     Check { font: &'a str },
     /// Print the numbers and tables of the font at the path `font`.
     Show { font: &'a str },
-    /// Print the mapped codes of the font at the path `font`, each with its glyph and advance width where
-    /// `with_glyphs` is set.
-    Codes { font: &'a str, with_glyphs: bool },
+    /// Print what the font at the path `font` maps.
+    Codes { font: &'a str, listing: Listing },
     /// Print whether the file at the path `cut` is a cut of the font at the path `font`.
     Belongs(Belongs<'a>),
     /// Write the cut of a font to a file.
@@ -349,10 +359,21 @@ fn subset_task<'a>(
     })))
 }
 
+// Returns what a line of `codes` prints.
+fn listing_of(matches: &ArgMatches<'_>) -> Listing {
+    if matches.get_flag("glyphs") {
+        Listing::Glyphs
+    } else if matches.get_flag("sequences") {
+        Listing::Sequences
+    } else {
+        Listing::Codes
+    }
+}
+
 fn codes_task<'a>(matches: &ArgMatches<'a>) -> Option<Task<'a>> {
     Some(Task::Codes {
         font: matches.get_str("FONT")?,
-        with_glyphs: matches.get_flag("glyphs"),
+        listing: listing_of(matches),
     })
 }
 

@@ -23,8 +23,8 @@ enum Form {
     SomeWords,
     // An option without a value.
     Flag,
-    // An option without a value for full cuts, which are of no other kind.
-    Alone,
+    // An option without a value that stands in the place of others.
+    InPlaceOf(&'static [&'static str]),
     // An option without a value for cuts that keep the tables of layout, which are no lean ones.
     KeepsLayout,
     // An option with a value of this name.
@@ -87,12 +87,13 @@ const OF_A_FONT: &[Argument] = &[("FONT", Form::Word, texts::FONT)];
 const OF_CODES: &[Argument] = &[
     ("FONT", Form::Word, texts::FONT),
     ("glyphs", Form::Flag, texts::GLYPHS),
+    ("sequences", Form::InPlaceOf(&["glyphs"]), texts::SEQUENCES),
 ];
 
 const OF_BELONGS: &[Argument] = &[
     ("CUT", Form::Word, texts::CUT),
     ("FONT", Form::Word, texts::FONT),
-    ("full", Form::Alone, texts::FULL_CUT),
+    ("full", Form::InPlaceOf(OTHER_KINDS), texts::FULL_CUT),
     ("lean", Form::Flag, texts::LEAN_CUT),
     ("layout", Form::KeepsLayout, texts::LAYOUT_CUT),
     ("variable", Form::KeepsLayout, texts::VARIABLE_CUT),
@@ -242,7 +243,7 @@ fn in_form<'a>(arg: Arg<'a>, id: &'a str, form: Form) -> Result<Arg<'a>, AllocEr
         Form::Words => Ok(words(arg, 0)),
         Form::SomeWords => Ok(words(arg, 1).required(true)),
         Form::Flag => Ok(flag(arg, id)),
-        Form::Alone => flag(arg, id).conflicts_with_all(OTHER_KINDS),
+        Form::InPlaceOf(others) => flag(arg, id).conflicts_with_all(others),
         Form::KeepsLayout => keeping_layout(flag(arg, id)),
         Form::Value(value) => Ok(option(arg, id, value)),
         Form::Required(value) => Ok(option(arg, id, value).required(true)),

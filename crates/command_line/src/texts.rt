@@ -46,6 +46,9 @@ pub(crate) const CODES: &str =
 pub(crate) const GLYPHS: &str =
     "Prints a line for each code: the code, its glyph number, and the advance width of the glyph";
 
+pub(crate) const SEQUENCES: &str =
+    "Prints the variation sequences of FONT instead, ascending, as lists take them: U+845B+E0100";
+
 pub(crate) const AFTER_CODES: &str = "\
 A range is as long as possible: U+41 for one code, U+41-5A for those from U+41 to U+5A. With --glyphs the
 lines are like U+41 36 1401, in font units; of these subset --codes-file reads the codes.
@@ -102,7 +105,7 @@ pub(crate) const VARIABLE: &str =
     "Writes the variable cut: a layout one with the variations (fvar, gvar ..), so it stays variable";
 
 pub(crate) const DROP: &str =
-    "Cuts FONT as if it lacked these layout tables; only GSUB adds glyphs; may be repeated";
+    "Cuts FONT without these layout tables; only GSUB adds glyphs; may be repeated";
 
 pub(crate) const FORCE_SUBSET: &str =
     "Writes even to a name that ends in .woff2 or .woff, and over the font of which FONT is a cut";
@@ -148,7 +151,7 @@ pub(crate) const NO_LAYOUT_CLOSURE: &str =
     "With --layout or --variable, keeps only what is named, and no substitutes of GSUB";
 
 pub(crate) const WORDS: &str =
-    "Ranges of codes to keep: all, U+41, U+41-5A; everything is all codes and all glyphs";
+    "What to keep: all, U+41, U+41-5A, U+845B+E0100; everything is all codes and all glyphs";
 
 pub(crate) const AFTER_SUBSET: &str = "\
 A cut keeps the glyph numbers. It drops colours, bitmaps and signatures; fontcut show lists the tables.

@@ -1,4 +1,4 @@
--- A font without tables that no cut has to have is refused as it was, and has the same cuts.
+-- A font without tables that full cuts do not keep is accepted, or refused, as it was.
 use Rattle.std.proofs.Common.{◌≡◌, ◌∙◌, ℕ, suc, ◌+◌, ◌<◌, Bool, cond, List, [], ◌∷◌, ◌++◌, Some, None, ◌||◌, ◌&&◌, ◌*◌}
 use Rattle.std.proofs.Common.{ap, refl, sym, arith, length, map, find, not, nat_lt, get_or, unwrap_or, nat_eq}
 use Rattle.std.specs.List.{range_with_len}

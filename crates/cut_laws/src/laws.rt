@@ -19,14 +19,14 @@ pub fn closed_cut_is_plain()
     ensures { ClosedCutIsPlain }
 {}
 
-/// A font without tables that no cut has to have is accepted, or refused, as it was, where no table that stays begins
-/// within the directory.
+/// A font without some of the tables that full cuts drop is accepted, or refused, as it was, where its file has all
+/// records and no table that full cuts keep begins within the directory.
 pub fn dropping_keeps_fault()
     ensures { DroppingKeepsFault }
 {}
 
-/// It is accepted, or refused, for cuts of a kind as it was, and has the same cuts of it, byte for byte, where the kind
-/// reads none of the tables that go.
+/// So it is for cuts of a kind, and these are the same, byte for byte, where the kind reads none of the tables that go and
+/// those that it reads begin after the directory too.
 pub fn dropping_keeps_cut()
     ensures { DroppingKeepsCut }
 {}

@@ -4,7 +4,7 @@ ghost use Rattle.streams.specs.Inlet.{inlet_fresh_of};
 
 use crate::asked::choice::{Choice, add_all_files, names_set};
 use crate::asked::dropped_tables::without_named;
-use crate::asked::glyph_numbers::{EVERYTHING, keeps_all_glyphs, listed, names_glyphs};
+use crate::asked::glyph_numbers::{EVERYTHING, keeps_all_glyphs, names_glyphs};
 use crate::messages::command_error::CommandError;
 use crate::outcome::Outcome;
 use crate::paths::inputs::{font_in, inlet_at, input_name, read_inlet};
@@ -13,7 +13,7 @@ use crate::paths::output::{outlet, packed_out, placed};
 use codes::Wanted;
 use command_line::{Subset, Verbosity};
 use commands::{CutRequest, run_subset_of_font};
-use font_coverage::{Asked, Coverage, Kept, WantedCodes, linked_count, losses};
+use font_coverage::{Asked, Coverage, Kept, WantedCodes, WantedSequences, linked_count, losses};
 use font_file::Font;
 use font_subset::keeps_layout;
 use font_texts::Shown;
@@ -23,13 +23,28 @@ use std::alloc::{AllocError, Global};
 use std::fs;
 use std::io::{Read, Write};
 use streams::Inlet;
-use wanted_characters::is_range_word;
+use wanted_characters::{is_range_word, numbers_of};
 
-// What a line keeps beside codes: the numbers of glyphs; and what is said of its options and files that name nothing.
+// What a line keeps beside codes: the numbers of glyphs; what is said of its options and files that name nothing; and the
+// first sequences of its lists that the font lacks.
 #[derive(Drop)]
 struct Chosen {
     numbers: Vec<u16>,
     said: String,
+    lacking: Vec<(u32, u32)>,
+}
+
+impl Chosen {
+    // Adds the glyphs of sequences, and those that the font lacks.
+    fn add_variants(
+        &mut self,
+        alloc: Global,
+        variants: &WantedSequences,
+    ) -> Result<(), AllocError> {
+        self.numbers.extend_from_slice(&variants.glyphs(alloc)?)?;
+        self.lacking.extend_from_slice(&variants.lacking)?;
+        Ok(())
+    }
 }
 
 // Returns what a line asks of a font, by the codes and the numbers of glyphs that it keeps.
@@ -69,35 +84,20 @@ fn send_cut<'a, F: HeldFiles, I, O: Write + Copy + Drop>(
     Ok(size)
 }
 
-// Returns the number of glyphs that a closed cut for codes alone keeps by links, where a line reports it.
+// Returns the number of glyphs that a closed cut for codes and sequences alone keeps by links, where a line reports it.
 fn reported_links(
     alloc: Global,
     kind: Kind,
     line: &Subset<'_>,
     font: &Font<'_>,
     wanted: &Wanted,
+    numbers: &[u16],
 ) -> Result<Option<usize>, AllocError> {
     let is_of_codes = line.is_closed && !names_glyphs(line);
     if line.reports && keeps_layout(kind) && is_of_codes {
-        return linked_count(alloc, kind, font, wanted);
+        return linked_count(alloc, kind, font, wanted, numbers);
     }
     Ok(None)
-}
-
-// Cuts a font for the codes and the glyphs that are wanted, and reports on the cut.
-fn cut_and_report<'a, F: HeldFiles, I, O: Write + Copy + Drop>(
-    system: &System<'a, F, I, O>,
-    kind: Kind,
-    line: &Subset<'a>,
-    font: &Font<'_>,
-    wanted: &WantedCodes,
-    numbers: &[u16],
-    coverage: Coverage,
-) -> Result<Outcome, CommandError<'a>> {
-    let linked = reported_links(system.alloc, kind, line, font, wanted.all())?;
-    let size = send_cut(system, kind, line, font, wanted, numbers)?;
-    let text = coverage.with_cut(kind, linked, size)?;
-    Ok(Outcome::saying(true, text))
 }
 
 // Returns whether a text has a dot or a slash, and is the path of a file.
@@ -124,6 +124,45 @@ fn note_paths_as_texts<F: HeldFiles>(
     Ok(())
 }
 
+// Returns what is said of the options and files of a line that name nothing or likely something else.
+fn notes_of<F: HeldFiles, I, O>(
+    system: &System<'_, F, I, O>,
+    line: &Subset<'_>,
+    chosen: &Chosen,
+) -> Result<String, AllocError> {
+    let mut said = String::new(system.alloc);
+    if line.verbosity != Verbosity::Quiet {
+        said.push_str(chosen.said.as_str())?;
+        note_paths_as_texts(system.files, &mut said, line)?;
+    }
+    Ok(said)
+}
+
+// Cuts a font for the codes and the glyphs that are wanted, and reports on the cut.
+fn cut_and_report<'a, F: HeldFiles, I, O: Write + Copy + Drop>(
+    system: &System<'a, F, I, O>,
+    kind: Kind,
+    line: &Subset<'a>,
+    font: &Font<'_>,
+    wanted: &WantedCodes,
+    chosen: &Chosen,
+    coverage: Coverage,
+) -> Result<Outcome, CommandError<'a>> {
+    let mut text = notes_of(system, line, chosen)?;
+    let linked = reported_links(
+        system.alloc,
+        kind,
+        line,
+        font,
+        wanted.all(),
+        &chosen.numbers,
+    )?;
+    let size = send_cut(system, kind, line, font, wanted, &chosen.numbers)?;
+    let report = coverage.with_cut(kind, linked, size)?;
+    text.push_str(report.as_str())?;
+    Ok(Outcome::saying(true, text))
+}
+
 // Returns what is said of a cut without being asked.
 fn said_of_cut<F: HeldFiles, I, O>(
     system: &System<'_, F, I, O>,
@@ -142,13 +181,13 @@ fn said_of_cut<F: HeldFiles, I, O>(
         wanted: wanted.all(),
         named: wanted.named(),
         texts: wanted.texts(),
+        lacking: &chosen.lacking,
         has_numbers: names_glyphs(line),
         says_more: line.verbosity == Verbosity::Verbose,
     };
-    let mut said = String::from_str(system.alloc, chosen.said.as_str())?;
+    let mut said = notes_of(system, line, chosen)?;
     let lost = losses(system.alloc, font, asked)?;
     said.push_str(lost.as_str())?;
-    note_paths_as_texts(system.files, &mut said, line)?;
     Ok(said)
 }
 
@@ -179,12 +218,13 @@ fn cut_counted<'a, F: HeldFiles, I, O: Write + Copy + Drop>(
     line: &Subset<'a>,
     font: &Font<'_>,
     kept: Kept,
+    variants: &WantedSequences,
     chosen: &Chosen,
 ) -> Result<Outcome, CommandError<'a>> {
     let shows_characters = line.verbosity == Verbosity::Verbose;
-    let mut coverage = Coverage::of(system.alloc, font, &kept, kind, shows_characters)?;
+    let mut coverage = Coverage::of(system.alloc, font, &kept, variants, kind, shows_characters)?;
     let wanted = kept.into_wanted(system.alloc)?;
-    coverage.add_lost(font, wanted.all())?;
+    coverage.add_lost(font, kind, wanted.all())?;
     if is_refused(line, &coverage) {
         let text = coverage.unwritten_text(system.alloc)?;
         return Ok(Outcome::saying(false, text));
@@ -192,7 +232,7 @@ fn cut_counted<'a, F: HeldFiles, I, O: Write + Copy + Drop>(
     if !line.reports {
         return cut_and_say(system, kind, line, font, &wanted, chosen);
     }
-    cut_and_report(system, kind, line, font, &wanted, &chosen.numbers, coverage)
+    cut_and_report(system, kind, line, font, &wanted, chosen, coverage)
 }
 
 // Cuts a font, whose file this is, for the codes that are kept and for glyphs, as a line asks for it.
@@ -202,11 +242,13 @@ fn cut_file<'a, F: HeldFiles, I, O: Write + Copy + Drop>(
     line: &Subset<'a>,
     file: &[u8],
     kept: Kept,
-    chosen: &Chosen,
+    chosen: &mut Chosen,
 ) -> Result<Outcome, CommandError<'a>> {
     let font = font_in(line.font, file)?;
+    let variants = WantedSequences::of_kept(system.alloc, &font, kind, &kept)?;
+    chosen.add_variants(system.alloc, &variants)?;
     if line.reports || line.is_strict {
-        return cut_counted(system, kind, line, &font, kept, chosen);
+        return cut_counted(system, kind, line, &font, kept, &variants, chosen);
     }
     let wanted = kept.into_wanted(system.alloc)?;
     cut_and_say(system, kind, line, &font, &wanted, chosen)
@@ -235,8 +277,13 @@ fn all_kept<'a, F: HeldFiles, I: Read + Copy + Drop, O>(
 ) -> Result<(Kept, Chosen), CommandError<'a>> {
     add_all_files(system, line, &mut choice)?;
     let (kept, glyphs, said) = choice.left(system.alloc)?;
-    let numbers = listed(system.alloc, &glyphs)?;
-    Ok((kept, Chosen { numbers, said }))
+    let numbers = numbers_of(system.alloc, &glyphs)?;
+    let chosen = Chosen {
+        numbers,
+        said,
+        lacking: Vec::new(system.alloc),
+    };
+    Ok((kept, chosen))
 }
 
 // Reads a font into memory, without the tables that a line drops.
@@ -266,7 +313,7 @@ pub(crate) fn subset<'a, F: HeldFiles, I: Read + Copy + Drop, O: Write + Copy + 
     check_line(kind, line)?;
     let choice = Choice::of(system.alloc, line)?;
     let mut inlet = inlet_at(system, line.font)?;
-    let (kept, chosen) = all_kept(system, line, choice)?;
+    let (kept, mut chosen) = all_kept(system, line, choice)?;
     let file = held_file(system, kind, line, &mut inlet)?;
-    cut_file(system, kind, line, &file, kept, &chosen)
+    cut_file(system, kind, line, &file, kept, &mut chosen)
 }

@@ -6,6 +6,7 @@ use font_file::Font;
 use sfnt_bytes::{BASE6, Directory};
 use std::alloc::{AllocError, Global};
 use streams::{Inlet, Outlet};
+use wanted_characters::SequenceSet;
 
 // Returns a line for the file, one for each table, and the number of findings.
 //
@@ -34,7 +35,7 @@ fn in_memory(error: RunError) -> RunError {
 
 // Returns the codes of some words. They name ranges, so only memory can be wanting.
 fn wanted_by(alloc: Global, words: &[&str]) -> Result<Wanted, RunError> {
-    let Ok(codes) = codes_of(alloc, words) else {
+    let Ok(codes) = codes_of(alloc, &mut SequenceSet::new(alloc), words) else {
         return Err(RunError::Memory);
     };
     match codes.into_wanted(alloc) {

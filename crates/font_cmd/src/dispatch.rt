@@ -10,11 +10,12 @@ use crate::messages::command_error::{CommandError, no_memory};
 use crate::messages::details::{Details, NO_DETAILS};
 use crate::messages::refused_file::{Seen, add_no_font, look_again, room_for_no_font};
 use crate::outcome::{Outcome, answered, ended, print, report, say};
-use crate::paths::inputs::inlet_at;
+use crate::paths::inputs::{font_in, inlet_at, read_whole};
 use crate::show_command::show;
 use crate::slice_command::slice;
-use command_line::{CutKind, Line, Parsed, Task, Verbosity, is_quiet, parse};
+use command_line::{CutKind, Line, Listing, Parsed, Task, Verbosity, is_quiet, parse};
 use commands::{run_check, run_codes, run_glyphs};
+use font_coverage::sequence_lines;
 use font_theory::Kind;
 use program_files::{HeldFiles, Reason, System};
 use std::alloc::{AllocError, Global};
@@ -43,16 +44,33 @@ fn check<'a, F: HeldFiles, I: Read + Copy + Drop, O, W: Flushes>(
     }
 }
 
-fn codes<'a, F: HeldFiles, I: Read + Copy + Drop, O, W: Flushes>(
+// Prints the variation sequences of a font.
+fn sequences<'a, F: HeldFiles, I: Read + Copy + Drop, O, W: Flushes>(
     system: &System<'a, F, I, O>,
-    font: &'a str,
-    with_glyphs: bool,
+    path: &'a str,
     out: &mut Outlet<W>,
 ) -> Result<Outcome, CommandError<'a>>
     requires { fresh_of out.old ≡ true }
 {
+    let file = read_whole(system, path)?;
+    let font = font_in(path, &file)?;
+    let lines = sequence_lines(system.alloc, &font)?;
+    print(out, lines.as_str())
+}
+
+fn codes<'a, F: HeldFiles, I: Read + Copy + Drop, O, W: Flushes>(
+    system: &System<'a, F, I, O>,
+    font: &'a str,
+    listing: Listing,
+    out: &mut Outlet<W>,
+) -> Result<Outcome, CommandError<'a>>
+    requires { fresh_of out.old ≡ true }
+{
+    if listing == Listing::Sequences {
+        return sequences(system, font, out);
+    }
     let mut inlet = inlet_at(system, font)?;
-    let sent = if with_glyphs {
+    let sent = if listing == Listing::Glyphs {
         run_glyphs(system.alloc, &mut inlet, out)
     } else {
         run_codes(system.alloc, &mut inlet, out)
@@ -90,7 +108,7 @@ fn done<'a, F: HeldFiles, I: Read + Copy + Drop, O: Write + Copy + Drop, W: Flus
     match &line.task {
         Task::Check { font } => check(system, font, line.verbosity, out),
         Task::Show { font } => show(system, font, line.verbosity, out),
-        Task::Codes { font, with_glyphs } => codes(system, font, *with_glyphs, out),
+        Task::Codes { font, listing } => codes(system, font, *listing, out),
         Task::Belongs(asked) => {
             let kind = asked.kind.map(kind_asked);
             belongs(system, kind, asked, line.verbosity, out)

@@ -1,5 +1,5 @@
 //! The command `show`: the numbers and tables of a font, and with `--verbose` its tables of layout and of variations,
-//! its axes and instances, and the kinds of cuts that it is.
+//! its axes and instances, how many variation sequences it has, and the kinds of cuts that it is.
 ghost use Rattle.std.specs.Prelude.{◌≡◌, true};
 ghost use Rattle.streams.specs.Outlet.{fresh_of};
 
@@ -8,7 +8,7 @@ use crate::outcome::{Outcome, STANDARD_OUTPUT, answered, print_more};
 use crate::paths::inputs::{font_in, inlet_at, read_whole};
 use command_line::Verbosity;
 use commands::run_show;
-use font_coverage::{is_cut_of, is_of_layout, is_of_variations};
+use font_coverage::{is_cut_of, is_of_layout, is_of_variations, sequence_count};
 use font_file::Font;
 use font_subset::OpenError;
 use font_texts::add_variations;
@@ -61,6 +61,10 @@ fn more_text(alloc: Global, font: &Font<'_>) -> Result<String, AllocError> {
     let mut text = String::new(alloc);
     add_tables(&mut text, font)?;
     add_variations(alloc, &mut text, font)?;
+    let count = sequence_count(font);
+    if count != 0 {
+        write!(text, "sequences {count}\n")?;
+    }
     for (name, kind) in KINDS {
         add_kind(&mut text, name, is_cut_of(alloc, kind, font))?;
     }

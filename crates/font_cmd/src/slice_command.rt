@@ -3,7 +3,7 @@ ghost use Rattle.std.specs.Prelude.{◌≡◌, true};
 ghost use Rattle.streams.specs.Outlet.{fresh_of};
 
 use crate::asked::dropped_tables::without_named;
-use crate::asked::glyph_numbers::{first_past, listed};
+use crate::asked::glyph_numbers::first_past;
 use crate::asked::presets::{may_be_preset, preset_source};
 use crate::asked::slice_list::{Slice, read_lines, slices_of};
 use crate::messages::command_error::{CommandError, no_memory};
@@ -14,7 +14,7 @@ use crate::paths::output::{before_packed, outlet, placed};
 use codes::Wanted;
 use command_line::Slices;
 use commands::RunError;
-use font_coverage::{Asked, losses, mapped_codes};
+use font_coverage::{Asked, WantedSequences, losses, mapped_codes};
 use font_file::Font;
 use font_subset::{FontToCut, cut_of_kind_into, keeps_layout};
 use font_texts::{Shown, ShownWord, add_rule};
@@ -24,7 +24,7 @@ use std::alloc::{AllocError, Global};
 use std::fs;
 use std::io::{ErrorKind, Read, Write};
 use streams::{Flushes, Outlet};
-use wanted_characters::CodeSet;
+use wanted_characters::{CodeSet, numbers_of};
 
 // What is said first where a strict line is not done.
 const UNWRITTEN: &str = "fontcut: nothing was written: the font maps no character of some slices\n";
@@ -72,7 +72,7 @@ fn write_slice<'a, F: HeldFiles, I, O: Write + Copy + Drop>(
     let alloc = system.alloc;
     let (name, codes, glyphs) = slice.into_parts();
     let path = slice_path(alloc, line.folder, name)?;
-    let numbers = listed(alloc, &glyphs)?;
+    let numbers = numbers_of(alloc, &glyphs)?;
     let wanted = codes.into_wanted(alloc)?;
     match write_cut(system, font, &wanted, &numbers, path.as_str()) {
         Ok(()) => Ok(()),
@@ -205,6 +205,8 @@ fn lost_of(
         wanted: &wanted,
         named: &wanted,
         texts: &no_text,
+        // A slice may have characters and sequences that the font lacks.
+        lacking: &[],
         // Slices of which the font maps nothing are named one by one.
         has_numbers: true,
         says_more: false,
@@ -265,13 +267,30 @@ fn write_cuts<'a, F: HeldFiles, I, O: Write + Copy + Drop>(
     }
 }
 
+// Adds the glyphs of the sequences of slices, where cuts of a kind keep sequences.
+fn add_variants(
+    alloc: Global,
+    kind: Kind,
+    font: &Font<'_>,
+    slices: &mut [Slice<'_>],
+) -> Result<(), AllocError> {
+    if !keeps_layout(kind) {
+        return Ok(());
+    }
+    for slice in slices {
+        let variants = WantedSequences::of(alloc, font, &slice.sequences)?;
+        slice.add_glyphs(&variants.glyphs(alloc)?)?;
+    }
+    Ok(())
+}
+
 // Writes the files of slices of an accepted font, and prints the rules for them.
 fn slice_font<'a, F: HeldFiles, I, O: Write + Copy + Drop, W: Flushes>(
     system: &System<'a, F, I, O>,
     kind: Kind,
     line: &Slices<'a>,
     font: &Font<'_>,
-    slices: Vec<Slice<'_>>,
+    mut slices: Vec<Slice<'_>>,
     out: &mut Outlet<W>,
 ) -> Result<Outcome, CommandError<'a>>
     requires { fresh_of out.old ≡ true }
@@ -288,6 +307,7 @@ fn slice_font<'a, F: HeldFiles, I, O: Write + Copy + Drop, W: Flushes>(
     }
     let lost = lost_of(system.alloc, kind, line, font, &slices)?;
     said.unmapped.push_str(lost.as_str())?;
+    add_variants(system.alloc, kind, font, &mut slices)?;
     write_cuts(system, kind, line, font, slices)?;
     said.told(line.is_quiet, out)
 }

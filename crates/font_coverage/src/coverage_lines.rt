@@ -1,6 +1,7 @@
 //! What `--report` says of a font: the wanted codes that it lacks, and the tables that a cut of it drops.
 use crate::kept::Kept;
 use crate::lost::add_never_kept;
+use crate::sequence_glyphs::WantedSequences;
 use codes::{CODES, Wanted};
 use font_file::Font;
 use font_map::Chart;
@@ -40,6 +41,8 @@ pub struct Coverage {
     // How many codes are wanted, and how many of these the font does not map.
     wanted: u32,
     lacking: u32,
+    // Whether it lacks a sequence of a list.
+    lacks_sequence: bool,
 }
 
 impl Drop for Coverage {
@@ -48,6 +51,7 @@ impl Drop for Coverage {
             text: _text,
             wanted: _,
             lacking: _,
+            lacks_sequence: _,
         } = self;
     }
 }
@@ -170,6 +174,19 @@ fn add_unmapped(
     add_ranges(text, ranges, shows_characters)
 }
 
+// Adds how many sequences are wanted and how many of them the font has, and a line for each of a list that it lacks.
+fn add_variants(text: &mut String, variants: &WantedSequences) -> Result<(), AllocError> {
+    if variants.wanted == 0 {
+        return Ok(());
+    }
+    let (found, wanted) = (variants.found, variants.wanted);
+    write!(text, "sequences {found} of {wanted}\n")?;
+    for &(code, selector) in &variants.lacking {
+        write!(text, "unmapped U+{code:X}+{selector:X}\n")?;
+    }
+    Ok(())
+}
+
 /// Returns whether a table is one of layout.
 pub fn is_of_layout(tag: Tag) -> bool {
     LAYOUT.contains(&tag)
@@ -289,8 +306,8 @@ fn count_linked(
     }
 }
 
-/// Returns how many glyphs a cut of a kind keeps that the lean cut for the same codes does not: what GSUB puts for those
-/// of wanted codes, and what this is made of. There is no number where the font is refused for cuts of the kind.
+/// Returns how many glyphs a cut of a kind keeps that the lean cut for the same codes and glyphs does not: what GSUB puts
+/// for the wanted ones, and what this is made of. There is no number where the font is refused for cuts of the kind.
 ///
 /// # Errors
 /// `AllocError` if out of memory.
@@ -299,11 +316,12 @@ pub fn linked_count(
     kind: Kind,
     font: &Font<'_>,
     wanted: &Wanted,
+    glyphs: &[u16],
 ) -> Result<Option<usize>, AllocError> {
     match FontToCut::open(alloc, kind, keeps_layout(kind), font) {
         Ok(opened) => {
             let lean = FontOfKind::lean(font);
-            count_linked(alloc, &opened, &lean, wanted, Some(&[])).map(Some)
+            count_linked(alloc, &opened, &lean, wanted, Some(glyphs)).map(Some)
         }
         Err(OpenError::NoMemory) => Err(AllocError),
         Err(OpenError::Refused(_)) => Ok(None),
@@ -381,7 +399,8 @@ fn count_codes(
 
 impl Coverage {
     /// Returns what is said of a font and of the codes that are wanted and added, with the characters of those that
-    /// it lacks of the wanted ones where they are to be shown, and of the tables that a cut of a kind drops.
+    /// it lacks of the wanted ones where they are to be shown, of the sequences that are wanted, and of the tables that a
+    /// cut of a kind drops.
     ///
     /// # Errors
     /// `AllocError` if out of memory.
@@ -389,36 +408,44 @@ impl Coverage {
         alloc: Global,
         font: &Font<'_>,
         kept: &Kept,
+        variants: &WantedSequences,
         kind: Kind,
         shows_characters: bool,
     ) -> Result<Coverage, AllocError> {
         let counted = count_codes(alloc, font, kept, kind)?;
         let mut text = counted.text(alloc, shows_characters)?;
+        add_variants(&mut text, variants)?;
         add_tables(&mut text, kind, font, counted.shaped.as_str())?;
         Ok(Coverage {
             text,
             wanted: counted.wanted,
             lacking: counted.lacking,
+            lacks_sequence: !variants.lacking.is_empty(),
         })
     }
 
-    /// Adds what no cut keeps of a font for wanted codes. All memory that the other lines need is asked for here.
+    /// Adds what a cut of a kind drops of a font for wanted codes. All memory that the other lines need is asked for here.
     ///
     /// # Errors
     /// `AllocError` if out of memory.
-    pub fn add_lost(&mut self, font: &Font<'_>, wanted: &Wanted) -> Result<(), AllocError> {
-        add_never_kept(&mut self.text, font, wanted)?;
+    pub fn add_lost(
+        &mut self,
+        font: &Font<'_>,
+        kind: Kind,
+        wanted: &Wanted,
+    ) -> Result<(), AllocError> {
+        add_never_kept(&mut self.text, font, kind, wanted)?;
         self.text.reserve(LEAN_LINES.len() + LAST_LINES.len())
     }
 
-    /// Returns whether a code is wanted, and the font maps each that is.
+    /// Returns whether a code is wanted, and the font maps each that is and has each sequence of lists.
     pub fn is_whole(&self) -> bool {
-        self.wanted != 0 && self.lacking == 0
+        self.wanted != 0 && !self.is_lacking()
     }
 
-    /// Returns whether the font does not map a wanted code.
+    /// Returns whether the font does not map a wanted code, or lacks a sequence of a list.
     pub fn is_lacking(&self) -> bool {
-        self.lacking != 0
+        self.lacking != 0 || self.lacks_sequence
     }
 
     // Returns the line that says that nothing was written, and why.
@@ -454,6 +481,7 @@ impl Coverage {
             mut text,
             wanted: _,
             lacking: _,
+            lacks_sequence: _,
         } = self;
         if kind != Kind::Full {
             text.push_str(LEAN_LINES)?;

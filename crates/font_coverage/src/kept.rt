@@ -1,7 +1,7 @@
 //! The codes that a cut is for.
 use codes::Wanted;
 use std::alloc::{AllocError, Global};
-use wanted_characters::CodeSet;
+use wanted_characters::{CodeSet, SequenceSet};
 
 /// The codes that a cut is for, as they are gathered.
 pub struct Kept {
@@ -11,6 +11,10 @@ pub struct Kept {
     pub texts: CodeSet,
     /// Those that are kept besides where the font maps them, of which some may be wanted too.
     pub added: CodeSet,
+    /// The variation sequences of texts.
+    pub sequences: SequenceSet,
+    /// Those that lists name.
+    pub listed: SequenceSet,
 }
 
 impl Drop for Kept {
@@ -19,11 +23,38 @@ impl Drop for Kept {
             wanted: _wanted,
             texts: _texts,
             added: _added,
+            sequences: _sequences,
+            listed: _listed,
         } = self;
     }
 }
 
 impl Kept {
+    /// Returns the set of nothing.
+    pub fn new(alloc: Global) -> Kept {
+        Kept {
+            wanted: CodeSet::new(alloc),
+            texts: CodeSet::new(alloc),
+            added: CodeSet::new(alloc),
+            sequences: SequenceSet::new(alloc),
+            listed: SequenceSet::new(alloc),
+        }
+    }
+
+    /// Returns what is left without the codes of a set and the sequences of which they are a part.
+    ///
+    /// # Errors
+    /// `AllocError` if out of memory.
+    pub fn without(&self, alloc: Global, gone: &CodeSet) -> Result<Kept, AllocError> {
+        Ok(Kept {
+            wanted: self.wanted.without(alloc, gone)?,
+            texts: self.texts.without(alloc, gone)?,
+            added: self.added.without(alloc, gone)?,
+            sequences: self.sequences.without(alloc, gone)?,
+            listed: self.listed.without(alloc, gone)?,
+        })
+    }
+
     /// Returns them as wanted sets.
     ///
     /// # Errors
@@ -33,6 +64,8 @@ impl Kept {
             wanted,
             texts,
             mut added,
+            sequences: _sequences,
+            listed: _listed,
         } = self;
         let texts = texts.into_wanted(alloc)?;
         if added.is_empty() {

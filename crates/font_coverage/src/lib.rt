@@ -9,6 +9,7 @@ mod kept;
 mod loss_counts;
 mod lost;
 mod missing;
+mod sequence_glyphs;
 mod sequences;
 
 pub use crate::changed_cuts::{FileForm, file_form, is_cmap_of_cut, may_be_cut};
@@ -19,3 +20,4 @@ pub use crate::cut_kinds::{cut_kind, is_cut_of, kind_of_cut};
 pub use crate::kept::{Kept, WantedCodes};
 pub use crate::loss_counts::{Losses, count_losses};
 pub use crate::lost::{Asked, losses};
+pub use crate::sequence_glyphs::{WantedSequences, sequence_count, sequence_lines, variants};

@@ -1,7 +1,6 @@
 //! What a cut lacks or drops of what is wanted of a font, in numbers.
-use crate::lost::{first_colours, unshaped_ranges};
+use crate::lost::{first_colours, lost_sequence, unshaped_ranges};
 use crate::missing::missing_count;
-use crate::sequences::wanted_sequence;
 use codes::Wanted;
 use font_file::Font;
 use font_texts::{axis_count, complex_count};
@@ -24,7 +23,7 @@ pub struct Losses {
     pub axes: u32,
     /// The tag of the first table with colours, as a number.
     pub colours: u32,
-    /// The character of a wanted variation sequence of the font.
+    /// The character of a wanted variation sequence of the font, where the cut drops it.
     pub sequence: u32,
     /// Its selector.
     pub selector: u32,
@@ -52,7 +51,7 @@ pub fn count_losses(
     let (missing, first_missing) = missing_count(alloc, font, wanted)?;
     let ranges = unshaped_ranges(alloc, font, kind, wanted, false)?;
     let (scripts, first_unshaped) = complex_count(alloc, font, &ranges)?;
-    let (sequence, selector) = wanted_sequence(font, wanted).unwrap_or((0, 0));
+    let (sequence, selector) = lost_sequence(font, kind, wanted).unwrap_or((0, 0));
     let colours = match first_colours(font) {
         Some((tag, _)) => u32::from_be_bytes(tag.0),
         None => 0,

@@ -34,6 +34,8 @@ pub struct Asked<'a> {
     pub named: &'a Wanted,
     /// Those of them that are characters of texts: each is missed where the font does not map it.
     pub texts: &'a Wanted,
+    /// The sequences of lists that the font lacks, as characters and selectors: the first of them.
+    pub lacking: &'a [(u32, u32)],
     /// Whether glyphs are wanted by their numbers, too.
     pub has_numbers: bool,
     /// Whether all scripts are named that the font shapes, also those whose text can be read where nothing shapes it.
@@ -185,13 +187,42 @@ fn add_axes(
     Ok(())
 }
 
-// Adds a line that names a variation sequence that is wanted, where the font has one.
+// Adds a line that names the first sequence of lists that a font lacks, where it lacks one.
+fn add_lacking(text: &mut String, asked: Asked<'_>) -> Result<(), AllocError> {
+    let Some(&(code, selector)) = asked.lacking.first() else {
+        return Ok(());
+    };
+    let name = Shown(asked.name);
+    if asked.lacking.len() == 1 {
+        write!(
+            text,
+            "fontcut: {name} lacks a wanted sequence: U+{code:X}+{selector:X}\n"
+        )?;
+        return Ok(());
+    }
+    write!(
+        text,
+        "fontcut: {name} lacks wanted sequences, such as U+{code:X}+{selector:X}\n"
+    )?;
+    Ok(())
+}
+
+/// Returns the first variation sequence of a font whose character and selector are both wanted, and that a cut of a kind
+/// drops, if there is one.
+pub(crate) fn lost_sequence(font: &Font<'_>, kind: Kind, wanted: &Wanted) -> Option<(u32, u32)> {
+    if keeps_layout(kind) {
+        return None;
+    }
+    wanted_sequence(font, wanted)
+}
+
+// Adds a line that names a variation sequence that is wanted, where the font has one and the cut drops it.
 fn add_sequence(text: &mut String, font: &Font<'_>, asked: Asked<'_>) -> Result<(), AllocError> {
-    if let Some((code, selector)) = wanted_sequence(font, asked.wanted) {
+    if let Some((code, selector)) = lost_sequence(font, asked.kind, asked.wanted) {
         let name = Shown(asked.name);
         write!(
             text,
-            "fontcut: {name} has variation sequences, such as U+{code:X} U+{selector:X}, which cuts drop\n"
+            "fontcut: {name} has variation sequences, such as U+{code:X} U+{selector:X}: add --layout\n"
         )?;
     }
     Ok(())
@@ -230,20 +261,21 @@ fn add_colours(text: &mut String, font: &Font<'_>, name: &str) -> Result<(), All
     Ok(())
 }
 
-/// Adds the lines of a report on what no cut keeps: a variation sequence that is wanted, and colours, where a font has
-/// them.
+/// Adds the lines of a report on what full and lean cuts drop, a variation sequence that is wanted, and on what each cut
+/// drops, colours, where a font has them.
 ///
 /// # Errors
 /// `AllocError` if out of memory.
 pub(crate) fn add_never_kept(
     text: &mut String,
     font: &Font<'_>,
+    kind: Kind,
     wanted: &Wanted,
 ) -> Result<(), AllocError> {
-    if let Some((code, selector)) = wanted_sequence(font, wanted) {
+    if let Some((code, selector)) = lost_sequence(font, kind, wanted) {
         write!(
             text,
-            "sequence U+{code:X} U+{selector:X}: cuts drop variation sequences\n"
+            "sequence U+{code:X} U+{selector:X}: --layout keeps variation sequences\n"
         )?;
     }
     if let Some((_, table)) = first_colours(font) {
@@ -268,6 +300,7 @@ pub fn losses(alloc: Global, font: &Font<'_>, asked: Asked<'_>) -> Result<String
         }
     }
     add_missing(alloc, &mut text, font, asked.name, asked.texts)?;
+    add_lacking(&mut text, asked)?;
     add_scripts(alloc, &mut text, font, asked)?;
     add_axes(alloc, &mut text, font, asked)?;
     add_sequence(&mut text, font, asked)?;

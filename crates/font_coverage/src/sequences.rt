@@ -1,17 +1,16 @@
-//! The variation sequences of a font, which no cut keeps. OpenType 1.9, cmap, Format 14: Unicode Variation Sequences.
+//! The variation sequences of a font whose codes are wanted, which full and lean cuts drop. OpenType 1.9, cmap, Format 14:
+//! Unicode Variation Sequences.
 use codes::Wanted;
 use font_file::Font;
 use font_texts::table_named;
 use sfnt_bytes::Tag;
 use variation_sequences::Sequences;
+use wanted_characters::SELECTORS;
 
-// The selectors of variations, from the first code to the last of each block. Unicode, section 23.4.
-const SELECTORS: [(u32, u32); 4] = [
-    (0x180B, 0x180D),
-    (0x180F, 0x180F),
-    (0xFE00, 0xFE0F),
-    (0xE_0100, 0xE_01EF),
-];
+/// Returns the variation sequences of a font, where it has a subtable of them, which is in order.
+pub(crate) fn sequences_of<'a>(font: &Font<'a>) -> Option<Sequences<'a>> {
+    Sequences::open(table_named(font, Tag(*b"cmap")))
+}
 
 // Returns the first wanted code from one to another.
 fn wanted_in(wanted: &Wanted, first: u32, last: u32) -> Option<u32> {
@@ -36,8 +35,7 @@ pub(crate) fn wanted_sequence(font: &Font<'_>, wanted: &Wanted) -> Option<(u32, 
     if !wants_selector(wanted) {
         return None;
     }
-    let sequences = Sequences::open(table_named(font, Tag(*b"cmap")))?;
-    for entry in sequences.entries() {
+    for entry in sequences_of(font)?.entries() {
         if wanted.contains(entry.selector) && wanted.contains(entry.code) {
             return Some((entry.code, entry.selector));
         }

@@ -14,3 +14,4 @@ pub mod Mapped
 pub mod Requests
 pub mod Text
 pub mod TextRanges
+pub mod Variants

@@ -17,8 +17,8 @@ use font_subset::{FontOfKind, FontToCut, kept_glyphs};
 use font_theory::Kind;
 use std::alloc::Global;
 
-// Writes numbers to the front of room, and returns how many they are.
-fn numbers_to(numbers: &[u16], out: &mut [u16]) -> Result<u64, Refusal>
+/// Writes numbers to the front of room, and returns how many they are.
+pub(crate) fn numbers_to(numbers: &[u16], out: &mut [u16]) -> Result<u64, Refusal>
     ensures { MatchResult result (IsInRoom numbers.now out.old out.new)
         (λ refusal. (out.new ≡ out.old) × RefusesRoom (length numbers.now) (length out.old) refusal) }
 {

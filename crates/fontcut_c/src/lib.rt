@@ -21,6 +21,7 @@ mod refusal;
 mod requests;
 mod text;
 mod text_ranges;
+mod text_variants;
 mod wanted_ranges;
 mod wanted_set;
 
@@ -43,6 +44,7 @@ ghost use Rattle.fontcut_c.specs.Mapped.{AnswersCodes};
 ghost use Rattle.fontcut_c.specs.Requests.{AnswersRead, HoldsRead, asked_at, asked_by, has_checked, read, read_all, request_of};
 ghost use Rattle.fontcut_c.specs.Text.{AnswersText, NamesFile, answer_text, font_fault_text, refusal_text};
 ghost use Rattle.fontcut_c.specs.TextRanges.{AnswersNeeded, AnswersRanges};
+ghost use Rattle.fontcut_c.specs.Variants.{AnswersVariants};
 
 pub use crate::answer::Answer;
 use crate::belonging::{belonging_answer, form_answer};
@@ -63,6 +65,7 @@ pub use crate::requests::Request;
 use crate::requests::read_requests;
 use crate::text::text_to;
 use crate::text_ranges::{listed_to, needed_to};
+use crate::text_variants::variants_to;
 pub use codes::CodeRange;
 pub use font_coverage::Losses;
 use font_file::Font;
@@ -351,6 +354,28 @@ pub extern "C" fn fontcut_needed(alloc: Global, text: &[u8], out: &mut [CodeRang
     ensures untouched { result.status ≢ 0 → out.new ≡ out.old }
 {
     answered(needed_to(alloc, text, out))
+}
+
+/// Writes the glyphs that a font has for the variation sequences of a text in UTF-8 to the front of `out`, ascending: each
+/// sequence is a character and the selector that follows it at once. `size` counts glyphs. Status 106 where the text is not
+/// UTF-8, and `detail` is the index of the first such byte. A refusal leaves `out` as it was. `flags` is as for
+/// [`fontcut_glyphs`].
+#[unsafe(no_mangle)]
+pub extern "C" fn fontcut_variants(
+    alloc: Global,
+    flags: u32,
+    font: &[u8],
+    text: &[u8],
+    out: &mut [u16],
+) -> Answer
+    requires { has_checked flags ≡ true → font_fault font.now ≡ None }
+    ensures exact { AnswersLookUp flags result (AnswersVariants font.now text.now out.old out.new result) }
+    ensures untouched { result.status ≢ 0 → out.new ≡ out.old }
+{
+    if flags != 0 && flags != 2 {
+        return Answer::unknown_request();
+    }
+    answered(variants_to(alloc, flags, font, text, out))
 }
 
 /// Writes the codes that the words of a list in UTF-8 name to the front of `out`, as ascending ranges that do not touch.

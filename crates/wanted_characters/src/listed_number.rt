@@ -2,6 +2,9 @@
 //! them.
 ghost use Rattle.std.specs.Prelude.{◌≤◌};
 
+use crate::code_set::CodeSet;
+use std::alloc::{AllocError, Global};
+
 /// The greatest number that a glyph can have.
 pub const LAST_GLYPH: u32 = 0xFFFF;
 
@@ -49,4 +52,26 @@ pub fn read_numbers(word: &str) -> Option<(u32, u32)> {
         return None;
     }
     Some((first, last))
+}
+
+// Puts the numbers of a range at the end of a list. Those above the greatest number of a glyph are left out.
+fn push_range(numbers: &mut Vec<u16>, first: u32, last: u32) -> Result<(), AllocError> {
+    for number in first..last.min(LAST_GLYPH) + 1 {
+        if let Ok(number) = u16::try_from(number) {
+            numbers.push(number)?;
+        }
+    }
+    Ok(())
+}
+
+/// Returns the glyph numbers of a set in ascending order.
+///
+/// # Errors
+/// `AllocError` if out of memory.
+pub fn numbers_of(alloc: Global, glyphs: &CodeSet) -> Result<Vec<u16>, AllocError> {
+    let mut numbers = Vec::new(alloc);
+    for (first, last) in glyphs.ranges(alloc)? {
+        push_range(&mut numbers, first, last)?;
+    }
+    Ok(numbers)
 }

@@ -1,5 +1,6 @@
 //! The words of lists of ranges: range words, and the forms that other subsetters and style sheets have beside
 //! them. CSS Fonts Module Level 4, "Character range: the unicode-range descriptor".
+use crate::sequence_set::is_selector;
 use codes::{LAST_CODE, WordError, read_word};
 
 // The most digits of a code, and of a code whose last digits are question marks.
@@ -87,7 +88,24 @@ pub fn read_listed(word: &str) -> Result<(u32, u32), WordError> {
     }
 }
 
-/// Returns whether a word has the form of a range word, be its range good or bad.
+/// Returns the character and the selector of a word for a variation sequence: `U+845B+E0100`. There are none for any other
+/// text, nor where the second code is no selector.
+pub fn read_sequence(word: &str) -> Option<(u32, u32)> {
+    let word = word.as_bytes();
+    let digits = without_prefix(word);
+    if digits.len() == word.len() {
+        return None;
+    }
+    let at = digits.iter().position(|&byte| byte == b'+')?;
+    let code = code_of(digits.get(..at)?)?;
+    let selector = code_of(digits.get(at.saturating_add(1)..)?)?;
+    if LAST_CODE < code || !is_selector(selector) {
+        return None;
+    }
+    Some((code, selector))
+}
+
+/// Returns whether a word has the form of a range word, be its range good or bad, or is one for a variation sequence.
 pub fn is_range_word(word: &str) -> bool {
-    !matches!(read_word(word), Err(WordError::BadWord))
+    !matches!(read_word(word), Err(WordError::BadWord)) || read_sequence(word).is_some()
 }

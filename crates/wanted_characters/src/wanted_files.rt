@@ -2,7 +2,8 @@
 use crate::code_set::CodeSet;
 use crate::glyph_columns::{GlyphColumns, Named};
 use crate::listed_number::read_numbers;
-use crate::listed_word::read_listed;
+use crate::listed_word::{read_listed, read_sequence};
+use crate::sequence_set::{SequenceSet, TextSequences};
 use crate::text_needs::TextNeeds;
 use crate::utf8::Utf8;
 use codes::read_word;
@@ -64,6 +65,8 @@ struct Reading<'a> {
     codes: &'a mut CodeSet,
     // What the text needs, where that is wanted.
     needs: Option<TextNeeds>,
+    // The variation sequences of the text or the list, where they are wanted.
+    sequences: Option<TextSequences>,
     utf8: Utf8,
     line: u64,
     // Whether no character has come.
@@ -86,12 +89,14 @@ impl<'a> Reading<'a> {
         kind: FileKind,
         codes: &'a mut CodeSet,
         needs: Option<TextNeeds>,
+        sequences: Option<TextSequences>,
     ) -> Result<Reading<'a>, AllocError> {
         Ok(Reading {
             alloc,
             kind,
             codes,
             needs,
+            sequences,
             utf8: Utf8::new(),
             line: 1,
             is_new: true,
@@ -125,11 +130,36 @@ impl<'a> Reading<'a> {
         Ok(())
     }
 
-    // Returns what the word which was read names.
+    // Returns the range that the word which was read names.
     fn named(&self) -> Option<(u32, u32)> {
         match self.kind {
             FileKind::Numbers => read_numbers(self.word.as_str()),
             _ => read_listed(self.word.as_str()).ok(),
+        }
+    }
+
+    // Adds the sequence that the word which was read names, where sequences are wanted, and returns its character.
+    fn take_sequence(&mut self) -> Result<Option<(u32, u32)>, AllocError> {
+        let Some((code, selector)) = read_sequence(self.word.as_str()) else {
+            return Ok(None);
+        };
+        match &mut self.sequences {
+            Some(sequences) => {
+                sequences.add(code, selector)?;
+                Ok(Some((code, code)))
+            }
+            None => Ok(None),
+        }
+    }
+
+    // Returns the codes that the word which was read names.
+    fn take_named(&mut self) -> Result<(u32, u32), FileFault> {
+        if let Some(codes) = self.named() {
+            return Ok(codes);
+        }
+        match self.take_sequence()? {
+            Some(codes) => Ok(codes),
+            None => Err(self.bad_word()),
         }
     }
 
@@ -138,9 +168,7 @@ impl<'a> Reading<'a> {
         if self.word.is_empty() {
             return Ok(());
         }
-        let Some(codes) = self.named() else {
-            return Err(self.bad_word());
-        };
+        let codes = self.take_named()?;
         let named = self.columns.take(self.word.as_str(), codes, after);
         self.word.clear();
         Ok(self.add_named(named)?)
@@ -181,12 +209,25 @@ impl<'a> Reading<'a> {
         }
     }
 
+    // Takes a character of a text for its sequences. A control character parts others.
+    fn take_of_sequences(&mut self, letter: char, is_wanted: bool) -> Result<(), AllocError> {
+        match &mut self.sequences {
+            Some(sequences) if is_wanted => sequences.take(letter),
+            Some(sequences) => {
+                sequences.end_text();
+                Ok(())
+            }
+            None => Ok(()),
+        }
+    }
+
     // Takes a character of a text.
     fn take_of_text(&mut self, letter: char) -> Result<(), AllocError> {
         let is_wanted = !letter.is_control();
         if is_wanted {
             self.codes.add(letter as u32)?;
         }
+        self.take_of_sequences(letter, is_wanted)?;
         match &mut self.needs {
             Some(needs) if is_wanted => needs.take(letter),
             // Nothing composes over a control character.
@@ -310,23 +351,63 @@ pub fn add_listed<R: Read>(
     kind: FileKind,
     codes: &mut CodeSet,
 ) -> Result<(), FileFault> {
-    Reading::new(alloc, kind, codes, None)?.read(file)
+    Reading::new(alloc, kind, codes, None, None)?.read(file)
 }
 
-/// Adds the characters of a text in a file, and to another set what the text needs.
+/// Adds the codes that a file lists, and to a set the variation sequences for which it has words. The character of such a
+/// word is listed, too.
 ///
 /// # Errors
 /// Those of `add_listed`.
-pub fn add_text_and_needs<R: Read>(
+pub fn add_listed_sequences<R: Read>(
     alloc: Global,
     file: &mut R,
+    kind: FileKind,
+    codes: &mut CodeSet,
+    sequences: &mut SequenceSet,
+) -> Result<(), FileFault> {
+    let named = Some(TextSequences::new(alloc));
+    let mut reading = Reading::new(alloc, kind, codes, None, named)?;
+    reading.read(file)?;
+    let Reading {
+        sequences: named,
+        ..
+    } = reading;
+    match named {
+        Some(named) => Ok(named.end(sequences)?),
+        None => Ok(()),
+    }
+}
+
+/// Adds the characters of a text in a file, its variation sequences to a set of them, and to another set what the text
+/// needs, where that is kept.
+///
+/// # Errors
+/// Those of `add_listed`.
+pub fn add_text_of_file<R: Read>(
+    alloc: Global,
+    file: &mut R,
+    keeps_needed: bool,
     codes: &mut CodeSet,
     added: &mut CodeSet,
+    sequences: &mut SequenceSet,
 ) -> Result<(), FileFault> {
-    let needs = Some(TextNeeds::new(alloc));
-    let mut reading = Reading::new(alloc, FileKind::Characters, codes, needs)?;
+    let needs = if keeps_needed {
+        Some(TextNeeds::new(alloc))
+    } else {
+        None
+    };
+    let found = Some(TextSequences::new(alloc));
+    let mut reading = Reading::new(alloc, FileKind::Characters, codes, needs, found)?;
     reading.read(file)?;
-    let Reading { needs, .. } = reading;
+    let Reading {
+        needs,
+        sequences: found,
+        ..
+    } = reading;
+    if let Some(found) = found {
+        found.end(sequences)?;
+    }
     match needs {
         Some(needs) => Ok(needs.end(added)?),
         None => Ok(()),

@@ -2,7 +2,10 @@
 //! glyphs that it keeps by their numbers.
 use crate::asked::glyph_numbers::{listed_glyphs, names_glyphs};
 use crate::asked::unnamed::{add_empty_files, said_of_options};
-use crate::asked::words::{add_files, add_lists, add_text_files, characters_of, codes_of};
+use crate::asked::words::{
+    add_files, add_lists, add_lists_and_sequences, add_text_files, add_word_files, characters_of,
+    codes_of,
+};
 use crate::messages::command_error::CommandError;
 use crate::paths::inputs::sources;
 use command_line::{CutKind, Subset};
@@ -10,7 +13,7 @@ use font_coverage::Kept;
 use program_files::{HeldFiles, System};
 use std::alloc::{AllocError, Global};
 use std::io::Read;
-use wanted_characters::{CodeSet, FileKind, add_all_parts, add_texts};
+use wanted_characters::{CodeSet, FileKind, add_all_parts, add_sequences, add_texts};
 
 /// The codes that a line keeps, those that it takes away from them, and the numbers of glyphs that it keeps; and what is
 /// said of its options and files that name nothing.
@@ -32,9 +35,14 @@ impl Drop for Choice {
     }
 }
 
+// Returns whether cuts of the kind of a line keep variation sequences, as those with layout do.
+fn keeps_sequences(line: &Subset<'_>) -> bool {
+    matches!(line.kind, CutKind::Layout | CutKind::Variable)
+}
+
 // Returns whether what the texts of a line need is kept with them.
 fn keeps_needed(line: &Subset<'_>) -> bool {
-    matches!(line.kind, CutKind::Layout | CutKind::Variable) && !line.keeps_text_alone
+    keeps_sequences(line) && !line.keeps_text_alone
 }
 
 // Adds the codes of lists and the parts of their characters.
@@ -44,23 +52,25 @@ fn add_completed<'a>(
     lists: &[&'a str],
 ) -> Result<(), CommandError<'a>> {
     let mut codes = CodeSet::new(alloc);
-    add_lists(alloc, &mut codes, lists)?;
+    add_lists_and_sequences(alloc, &mut codes, &mut kept.listed, lists)?;
     add_all_parts(alloc, &mut kept.added, &codes)?;
     Ok(kept.wanted.add_all(alloc, &codes)?)
 }
 
 // Returns the codes that the arguments of a line keep.
 fn kept_by<'a>(alloc: Global, line: &Subset<'a>) -> Result<Kept, CommandError<'a>> {
-    let mut kept = Kept {
-        wanted: codes_of(alloc, &line.words)?,
-        texts: characters_of(alloc, &line.texts)?,
-        added: CodeSet::new(alloc),
-    };
+    let mut kept = Kept::new(alloc);
+    kept.wanted = codes_of(alloc, &mut kept.listed, &line.words)?;
+    kept.texts = characters_of(alloc, &line.texts)?;
     kept.wanted.add_all(alloc, &kept.texts)?;
-    add_lists(alloc, &mut kept.wanted, &line.lists)?;
+    let (wanted, listed) = (&mut kept.wanted, &mut kept.listed);
+    add_lists_and_sequences(alloc, wanted, listed, &line.lists)?;
     add_completed(alloc, &mut kept, &line.completed)?;
     if keeps_needed(line) {
         add_texts(alloc, &mut kept.added, &line.texts)?;
+    }
+    if keeps_sequences(line) {
+        add_sequences(alloc, &mut kept.sequences, &line.texts)?;
     }
     Ok(kept)
 }
@@ -98,28 +108,23 @@ impl Choice {
         if gone.is_empty() {
             return Ok((kept, glyphs, said));
         }
-        let left = Kept {
-            wanted: kept.wanted.without(alloc, &gone)?,
-            texts: kept.texts.without(alloc, &gone)?,
-            added: kept.added.without(alloc, &gone)?,
-        };
-        Ok((left, glyphs, said))
+        Ok((kept.without(alloc, &gone)?, glyphs, said))
     }
 }
 
-// Adds the characters of the files of texts, and with them what the texts need where that is kept. Returns the paths of
-// those without a character.
+// Adds the characters of the files of texts, and with them their sequences and what the texts need, where cuts of the kind
+// keep these. Returns the paths of those without a character.
 fn add_texts_of_files<'a, R: Read + Drop>(
     alloc: Global,
     line: &Subset<'a>,
     files: Vec<R>,
     kept: &mut Kept,
 ) -> Result<Vec<&'a str>, CommandError<'a>> {
-    let (paths, texts) = (&line.text_files, &mut kept.texts);
-    let empty = if keeps_needed(line) {
-        add_text_files(alloc, files, paths, texts, &mut kept.added)?
+    let paths = &line.text_files;
+    let empty = if keeps_sequences(line) {
+        add_text_files(alloc, files, paths, keeps_needed(line), kept)?
     } else {
-        add_files(alloc, files, paths, FileKind::Characters, texts)?
+        add_files(alloc, files, paths, FileKind::Characters, &mut kept.texts)?
     };
     kept.wanted.add_all(alloc, &kept.texts)?;
     Ok(empty)
@@ -161,8 +166,7 @@ impl<R: Read + Drop> Opened<R> {
         } = self;
         let empty = add_texts_of_files(alloc, line, texts, &mut choice.kept)?;
         add_empty_files(&mut choice.said, &empty, FileKind::Characters)?;
-        let (paths, wanted) = (&line.code_files, &mut choice.kept.wanted);
-        let empty = add_files(alloc, words, paths, FileKind::Words, wanted)?;
+        let empty = add_word_files(alloc, words, &line.code_files, &mut choice.kept)?;
         add_empty_files(&mut choice.said, &empty, FileKind::Words)?;
         let paths = &line.excluded_files;
         // That nothing is taken away is no mistake.

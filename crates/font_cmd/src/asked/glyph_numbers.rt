@@ -3,7 +3,7 @@ use crate::asked::words::add_list;
 use crate::messages::command_error::CommandError;
 use command_line::Subset;
 use std::alloc::{AllocError, Global};
-use wanted_characters::{CodeSet, FileKind, LAST_GLYPH};
+use wanted_characters::{CodeSet, FileKind};
 
 /// The word for all codes and all glyphs.
 pub(crate) const EVERYTHING: &str = "everything";
@@ -31,28 +31,6 @@ pub(crate) fn listed_glyphs<'a>(
         add_list(alloc, &mut glyphs, list, FileKind::Numbers, None)?;
     }
     Ok(glyphs)
-}
-
-// Puts the numbers of a range at the end of a list. Those above the greatest number of a glyph are left out.
-fn push_range(numbers: &mut Vec<u16>, first: u32, last: u32) -> Result<(), AllocError> {
-    for number in first..last.min(LAST_GLYPH) + 1 {
-        if let Ok(number) = u16::try_from(number) {
-            numbers.push(number)?;
-        }
-    }
-    Ok(())
-}
-
-/// Returns the numbers of a set in ascending order.
-///
-/// # Errors
-/// `AllocError` if out of memory.
-pub(crate) fn listed(alloc: Global, glyphs: &CodeSet) -> Result<Vec<u16>, AllocError> {
-    let mut numbers = Vec::new(alloc);
-    for (first, last) in glyphs.ranges(alloc)? {
-        push_range(&mut numbers, first, last)?;
-    }
-    Ok(numbers)
 }
 
 /// Returns the first number of a set that is not below a count.

@@ -1,11 +1,11 @@
 //! Files of slices: in each line the name of a slice and the list of its codes and glyph numbers. This project's own.
-use crate::asked::words::add_list;
+use crate::asked::words::{add_list, add_list_and_sequences};
 use crate::messages::command_error::{CommandError, no_memory};
 use sfnt_bytes::MAX_FILE;
-use std::alloc::Global;
+use std::alloc::{AllocError, Global};
 use std::collections::BTreeSet;
 use std::io::Read;
-use wanted_characters::{CodeSet, FileKind};
+use wanted_characters::{CodeSet, FileKind, SequenceSet};
 
 // The most bytes of one read.
 const PIECE: usize = 16 * 1024;
@@ -22,11 +22,13 @@ const MARK: char = '\u{FEFF}';
 // What a word of glyph numbers begins with.
 const GLYPHS: &str = "gid";
 
-/// A slice: the name of its file, but for `.ttf`, its codes, and the glyphs that it keeps by their numbers.
+/// A slice: the name of its file, but for `.ttf`, its codes, the glyphs that it keeps by their numbers, and its variation
+/// sequences.
 pub(crate) struct Slice<'t> {
     pub(crate) name: &'t str,
     pub(crate) codes: CodeSet,
     pub(crate) glyphs: CodeSet,
+    pub(crate) sequences: SequenceSet,
 }
 
 impl Drop for Slice<'_> {
@@ -35,17 +37,30 @@ impl Drop for Slice<'_> {
             name: _,
             codes: _codes,
             glyphs: _glyphs,
+            sequences: _sequences,
         } = self;
     }
 }
 
 impl<'t> Slice<'t> {
+    /// Adds glyphs to those that it keeps by their numbers.
+    ///
+    /// # Errors
+    /// `AllocError` if out of memory.
+    pub(crate) fn add_glyphs(&mut self, numbers: &[u16]) -> Result<(), AllocError> {
+        for &number in numbers {
+            self.glyphs.add(u32::from(number))?;
+        }
+        Ok(())
+    }
+
     /// Returns its name, its codes and its glyphs.
     pub(crate) fn into_parts(self) -> (&'t str, CodeSet, CodeSet) {
         let Slice {
             name,
             codes,
             glyphs,
+            sequences: _sequences,
         } = self;
         (name, codes, glyphs)
     }
@@ -93,15 +108,16 @@ fn add_slice_list<'a>(
     slice: &mut Slice<'_>,
 ) -> Result<(), CommandError<'a>> {
     let place = Some((path, line));
+    let (codes, sequences) = (&mut slice.codes, &mut slice.sequences);
     if !list.contains(GLYPHS) {
-        return add_list(alloc, &mut slice.codes, list, FileKind::List, place);
+        return add_list_and_sequences(alloc, codes, sequences, list, place);
     }
     for word in list.split(separates) {
         match word.strip_prefix(GLYPHS) {
             Some(numbers) if !numbers.is_empty() => {
                 add_list(alloc, &mut slice.glyphs, numbers, FileKind::Numbers, place)?
             }
-            _ => add_list(alloc, &mut slice.codes, word, FileKind::List, place)?,
+            _ => add_list_and_sequences(alloc, codes, sequences, word, place)?,
         }
     }
     Ok(())
@@ -131,6 +147,7 @@ fn slice_of<'t, 'a>(
         name,
         codes: CodeSet::new(alloc),
         glyphs: CodeSet::new(alloc),
+        sequences: SequenceSet::new(alloc),
     };
     add_slice_list(alloc, path, line, list, &mut slice)?;
     Ok(Some(slice))

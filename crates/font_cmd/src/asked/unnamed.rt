@@ -1,11 +1,11 @@
 //! What is said of options and files that name no character and no glyph, as where a variable of a shell is empty.
-use crate::asked::words::add_list;
+use crate::asked::words::{add_list, add_list_and_sequences};
 use crate::messages::command_error::CommandError;
 use crate::paths::inputs::input_name;
 use command_line::Subset;
 use font_texts::Shown;
 use std::alloc::{AllocError, Global};
-use wanted_characters::{CodeSet, FileKind};
+use wanted_characters::{CodeSet, FileKind, SequenceSet};
 
 // What is said of an empty text of the line.
 const NO_TEXT: &str = "fontcut: --text is empty: it names no character\n";
@@ -25,7 +25,13 @@ fn is_empty_list<'a>(
     kind: FileKind,
 ) -> Result<bool, CommandError<'a>> {
     let mut named = CodeSet::new(alloc);
-    add_list(alloc, &mut named, list, kind, None)?;
+    match kind {
+        FileKind::Numbers => add_list(alloc, &mut named, list, kind, None)?,
+        _ => {
+            let mut sequences = SequenceSet::new(alloc);
+            add_list_and_sequences(alloc, &mut named, &mut sequences, list, None)?
+        }
+    }
     Ok(named.is_empty())
 }
 

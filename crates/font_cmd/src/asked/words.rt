@@ -2,9 +2,13 @@
 use crate::asked::glyph_numbers::EVERYTHING;
 use crate::messages::command_error::{CommandError, no_memory};
 use codes::{LAST_CODE, read_word};
+use font_coverage::Kept;
 use std::alloc::{AllocError, Global};
 use std::io::Read;
-use wanted_characters::{CodeSet, FileFault, FileKind, add_listed, add_text_and_needs};
+use wanted_characters::{
+    CodeSet, FileFault, FileKind, SequenceSet, add_listed, add_listed_sequences, add_text_of_file,
+    read_sequence,
+};
 
 // Returns the codes of a word. The word for everything has all of them.
 fn codes_of_word<'a>(word: &'a str) -> Result<(u32, u32), CommandError<'a>> {
@@ -14,22 +18,34 @@ fn codes_of_word<'a>(word: &'a str) -> Result<(u32, u32), CommandError<'a>> {
     read_word(word).map_err(|_| CommandError::BadWord(word))
 }
 
-// Adds the ranges of words, up to the first one that is no word.
-fn add_words<'a>(codes: &mut CodeSet, words: &[&'a str]) -> Result<(), CommandError<'a>> {
-    for &word in words {
-        let (first, last) = codes_of_word(word)?;
-        codes.add_range(first, last)?;
+// Adds the codes of a word, and the sequence for which it is a word.
+fn add_word<'a>(
+    alloc: Global,
+    codes: &mut CodeSet,
+    sequences: &mut SequenceSet,
+    word: &'a str,
+) -> Result<(), CommandError<'a>> {
+    if let Some((code, selector)) = read_sequence(word) {
+        codes.add(code)?;
+        return Ok(sequences.add(alloc, code, selector)?);
     }
-    Ok(())
+    let (first, last) = codes_of_word(word)?;
+    Ok(codes.add_range(first, last)?)
 }
 
-/// Returns the codes of words.
+/// Returns the codes of words, and adds the sequences for which there are words to a set.
 ///
 /// # Errors
-/// `BadWord` with the first word that names no range, `Refused` if out of memory.
-pub(crate) fn codes_of<'a>(alloc: Global, words: &[&'a str]) -> Result<CodeSet, CommandError<'a>> {
+/// `BadWord` with the first word that names no range and no sequence, `Refused` if out of memory.
+pub(crate) fn codes_of<'a>(
+    alloc: Global,
+    sequences: &mut SequenceSet,
+    words: &[&'a str],
+) -> Result<CodeSet, CommandError<'a>> {
     let mut codes = CodeSet::new(alloc);
-    add_words(&mut codes, words)?;
+    for &word in words {
+        add_word(alloc, &mut codes, sequences, word)?;
+    }
     Ok(codes)
 }
 
@@ -65,6 +81,18 @@ fn bad_word<'a>(
     }
 }
 
+// Returns why a list is not read to its end: one of the line, or one in a line of the file at a path.
+fn error_in<'a>(
+    place: Option<(&'a str, u64)>,
+    kind: FileKind,
+    error: FileFault,
+) -> CommandError<'a> {
+    match error {
+        FileFault::BadLine { word, .. } => bad_word(place, kind, word),
+        _ => no_memory(),
+    }
+}
+
 /// Adds the codes of a list, or the glyph numbers: the list is one of the line, or in a line of the file at a path.
 ///
 /// # Errors
@@ -78,9 +106,48 @@ pub(crate) fn add_list<'a>(
 ) -> Result<(), CommandError<'a>> {
     match add_listed(alloc, &mut list.as_bytes(), kind, codes) {
         Ok(()) => Ok(()),
-        Err(FileFault::BadLine { word, .. }) => Err(bad_word(place, kind, word)),
-        Err(_) => Err(no_memory()),
+        Err(error) => Err(error_in(place, kind, error)),
     }
+}
+
+/// Adds the codes of a list, and the sequences for which it has words to a set: the list is one of the line, or in a line of
+/// the file at a path.
+///
+/// # Errors
+/// Those of `add_list`.
+pub(crate) fn add_list_and_sequences<'a>(
+    alloc: Global,
+    codes: &mut CodeSet,
+    sequences: &mut SequenceSet,
+    list: &str,
+    place: Option<(&'a str, u64)>,
+) -> Result<(), CommandError<'a>> {
+    match add_listed_sequences(
+        alloc,
+        &mut list.as_bytes(),
+        FileKind::List,
+        codes,
+        sequences,
+    ) {
+        Ok(()) => Ok(()),
+        Err(error) => Err(error_in(place, FileKind::List, error)),
+    }
+}
+
+/// Adds the codes of lists of ranges, and the sequences for which they have words to a set.
+///
+/// # Errors
+/// Those of `add_lists`.
+pub(crate) fn add_lists_and_sequences<'a>(
+    alloc: Global,
+    codes: &mut CodeSet,
+    sequences: &mut SequenceSet,
+    lists: &[&'a str],
+) -> Result<(), CommandError<'a>> {
+    for &list in lists {
+        add_list_and_sequences(alloc, codes, sequences, list, None)?;
+    }
+    Ok(())
 }
 
 /// Adds the codes of lists of ranges.
@@ -162,20 +229,50 @@ pub(crate) fn add_files<'a, R: Read + Drop>(
     Ok(empty)
 }
 
-// Adds the characters of the text in a file, and what the text needs, and returns whether it has a character.
+// Adds the characters of the text in a file, its sequences, and what the text needs where that is kept, and returns whether
+// it has a character.
 fn add_text_file<R: Read>(
     alloc: Global,
     file: &mut R,
-    codes: &mut CodeSet,
-    added: &mut CodeSet,
+    keeps_needed: bool,
+    kept: &mut Kept,
 ) -> Result<bool, FileFault> {
     let mut own = CodeSet::new(alloc);
-    add_text_and_needs(alloc, file, &mut own, added)?;
-    add_own(alloc, codes, &own)
+    let (added, sequences) = (&mut kept.added, &mut kept.sequences);
+    add_text_of_file(alloc, file, keeps_needed, &mut own, added, sequences)?;
+    add_own(alloc, &mut kept.texts, &own)
 }
 
-/// Adds the characters of the texts in files, whose paths these are, and to another set what the texts need. Returns the
-/// paths of those that have no character.
+// Adds the codes and the sequences that a file of words lists, and returns whether there are any.
+fn add_word_file<R: Read>(alloc: Global, file: &mut R, kept: &mut Kept) -> Result<bool, FileFault> {
+    let mut own = CodeSet::new(alloc);
+    add_listed_sequences(alloc, file, FileKind::Words, &mut own, &mut kept.listed)?;
+    add_own(alloc, &mut kept.wanted, &own)
+}
+
+/// Adds the codes and the sequences that files of words list, whose paths these are. Returns the paths of those that list
+/// none.
+///
+/// # Errors
+/// Those of `add_files`.
+pub(crate) fn add_word_files<'a, R: Read + Drop>(
+    alloc: Global,
+    files: Vec<R>,
+    paths: &[&'a str],
+    kept: &mut Kept,
+) -> Result<Vec<&'a str>, CommandError<'a>> {
+    let mut empty = Vec::new(alloc);
+    for (mut file, &path) in files.into_iter().zip(paths) {
+        match add_word_file(alloc, &mut file, kept) {
+            Ok(names_any) => add_if_empty(&mut empty, path, names_any)?,
+            Err(error) => return Err(error_at(path, FileKind::Words, error)),
+        }
+    }
+    Ok(empty)
+}
+
+/// Adds the characters of the texts in files, whose paths these are, their sequences, and what the texts need where that is
+/// kept. Returns the paths of those that have no character.
 ///
 /// # Errors
 /// Those of `add_files`.
@@ -183,12 +280,12 @@ pub(crate) fn add_text_files<'a, R: Read + Drop>(
     alloc: Global,
     files: Vec<R>,
     paths: &[&'a str],
-    codes: &mut CodeSet,
-    added: &mut CodeSet,
+    keeps_needed: bool,
+    kept: &mut Kept,
 ) -> Result<Vec<&'a str>, CommandError<'a>> {
     let mut empty = Vec::new(alloc);
     for (mut file, &path) in files.into_iter().zip(paths) {
-        match add_text_file(alloc, &mut file, codes, added) {
+        match add_text_file(alloc, &mut file, keeps_needed, kept) {
             Ok(names_any) => add_if_empty(&mut empty, path, names_any)?,
             Err(error) => return Err(error_at(path, FileKind::Characters, error)),
         }
