@@ -13,10 +13,10 @@ _fontcut_web_options() {
         ;;
     slices) echo '--font --order --help' ;;
     icons) echo '--out --codepoints --lean --variable --force --json --help' ;;
-    site) echo '--anew --check --whole --json --help' ;;
+    site) echo '--anew --check --whole --strict --quiet --json --help' ;;
     device) echo '--no-hinting --notdef-outline --map --force --help' ;;
     text)
-        echo '--lean --layout --variable --full --as-is --text --shaped --features --check --css --display --strict --force --quiet --json --help'
+        echo '--lean --layout --variable --full --as-is --drop --text --shaped --features --check --css --display --strict --force --quiet --json --help'
         ;;
     *) echo '--lean --layout --variable --full --force --help' ;;
     esac

@@ -85,6 +85,8 @@ Gids = Union[Literal["all"], Iterable[int]]
 _NO_MEMORY, _TOO_LARGE, _NOT_A_CUT, _NOTHING_TO_JOIN = 16, 18, 20, 24
 _OF_TAGS, _OF_NUMBERS = (5, 6, 7, 21, 29), (12, 15, 17, 22, 23)
 # End of what tools/write_refusals writes.
+# The refusals that say that cuts differ: tables, mappings, glyphs, and tables of which one is longer.
+_DIFFERENCES = 21, 22, 23, 29
 _SMALL_ROOM, _NO_GLYPH, _NO_NUMBERS, _BAD_TEXT = 100, 102, 104, 106
 _CLOSES, _CHECKED = 1, 2  # the flags of a request
 _LAST_CODE, _MOST_GLYPHS = 0x10FFFF, 0xFFFF
@@ -648,12 +650,12 @@ def _kind_of_cut(file: Bytes) -> str:
     return "" if found is Form.NO_CUT else "full" if found in (Form.CURRENT, Form.OLD) else found.name.lower()
 
 
-def _join_hint(cuts: Sequence[Bytes], at: int) -> str:
-    """What is said where the file at a place is joined as a full cut, and is a cut of another kind: also the kind of
-    another file, if that differs."""
+def _join_hint(cuts: Sequence[Bytes], at: int, is_of_two: bool) -> str:
+    """What is said where the file at a place is joined as a full cut, and is a cut of another kind, or differs from
+    others: also the kind of another file, if that is another one, as it has to be where these are cuts of two kinds."""
     other = 0 if at else min(1, len(cuts) - 1)
     kinds = _kind_of_cut(cuts[at]), _kind_of_cut(cuts[other])
-    if kinds[0] in ("", "full"):
+    if not kinds[0] or (kinds[1] in ("", kinds[0]) if is_of_two else kinds[0] == "full"):
         return ""
     if kinds[1] in ("", kinds[0]):
         return f"; {kinds[0]} cuts are joined with kind={kinds[0]!r}"
@@ -665,7 +667,8 @@ def join(cuts: Sequence[Bytes], *, kind: Optional[str] = None) -> bytes:
     whatever their order is. Full cuts are joined if no kind is named.
 
     Raises `Refused`, with the index of the file, if one is not a cut, or not a cut of the same font as those before. If
-    no kind is named and it is a cut of another one, the message names that, and that of another file if it differs."""
+    no kind is named and it is a cut of another one, the message names that, and that of another file if it differs; so
+    if cuts of two kinds are joined as one of these."""
     files, number = [_File(one) for one in cuts], _kind(kind)
     given = (_Bytes * max(1, len(files)))(*[_Bytes(one.at, one.length) for one in files])
 
@@ -675,9 +678,9 @@ def join(cuts: Sequence[Bytes], *, kind: Optional[str] = None) -> bytes:
     try:
         return _written(sum(one.length for one in files) + 4096, made, several=True)
     except Refused as refused:
-        if kind is not None or refused.number != _NOT_A_CUT or refused.file is None:
+        if refused.file is None or refused.number not in (_NOT_A_CUT, *_DIFFERENCES):
             raise
-        hint = _join_hint(cuts, refused.file)
+        hint = _join_hint(cuts, refused.file, kind is not None or refused.number != _NOT_A_CUT)
         raise Refused(refused.number, refused.text, refused.argument, refused.file, hint) from None
 
 

@@ -12,7 +12,7 @@ import shutil
 import sys
 import tempfile
 import time
-from typing import Any, Sequence, Set
+from typing import Any, Dict, List, Mapping, Sequence, Set
 
 import fontcut
 
@@ -24,6 +24,12 @@ class CommandParser(argparse.ArgumentParser):
     """Reads the words of a command. Options may stand between files, which Python reads so where it is asked to."""
 
     _is_mixed = False
+
+    def __init__(self, *words: Any, **named: Any):
+        # An abbreviation of one option may be meant for another one.
+        named["allow_abbrev"] = False
+        super().__init__(*words, **named)
+        self.others: Dict[str, List[str]] = {}
 
     def parse_known_args(self, args: Any = None, namespace: Any = None) -> Any:
         """Reads the words, as `argparse` does with options and files in any order."""
@@ -40,8 +46,20 @@ class CommandParser(argparse.ArgumentParser):
     def _check_options(self, words: Sequence[str]) -> None:
         """Ends with an error for a word that is near to an option, and names that."""
         for word in (word.partition("=")[0] for word in words if word.startswith("--")):
+            if word in self.others:
+                self.error(f"{word} is an option of {', '.join(self.others[word])}, not of {self.prog}")
             for near in difflib.get_close_matches(word, self._option_string_actions, 1, 0.75):
                 self.error(f"there is no option {word}: did you mean {near}?")
+            self.error(f"there is no option {word}")
+
+
+def tell_of_others(commands: Mapping[str, CommandParser]) -> None:
+    """Lets each command say which others have an option that it lacks."""
+    for one in commands.values():
+        for other in commands.values():
+            for option in other._option_string_actions:
+                if option not in one._option_string_actions:
+                    one.others.setdefault(option, []).append(other.prog)
 
 
 def write(path: str, data: bytes) -> None:

@@ -440,6 +440,8 @@ class Joining(unittest.TestCase):
         with self.assertRaises(fontcut.Refused) as caught:
             fontcut.join([letters, fontcut.cut(BASE6, LETTERS, kind="lean")], kind="layout")
         self.assertEqual((caught.exception.number, caught.exception.argument, caught.exception.file), (21, "GSUB", 1))
+        with self.assertRaisesRegex(fontcut.Refused, "; it is a lean cut, and file 1 a layout cut: cuts of one kind"):
+            fontcut.join([letters, fontcut.cut(WITH_GSUB, LETTERS, kind="lean")], kind="layout")
 
     def test_variable_joins_agree_in_each_order(self) -> None:
         both = fontcut.cut(WITH_GVAR, ALL, kind="variable")

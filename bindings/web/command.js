@@ -221,7 +221,7 @@ function runSubset(given, [font, out, ...words]) {
     if (standsApart(given, out, [font])) {
         keepFont(given, out, font, data, `subset ${out} OUT cuts the font`);
     } else {
-        keepItself(given, out, font, data, kind);
+        keepItself(given, out, font, data);
     }
     const isShaped = SHAPED.includes(kind), sequences = isShaped ? lists.flatMap((one) => one.sequences) : [];
     const drawn = () => isShaped && !isAll
@@ -234,7 +234,7 @@ function runSubset(given, [font, out, ...words]) {
             lacking: [...new Set(sequences)].filter((one) => !variants(data, one).length) };
         const paths = (given.text ?? []).filter((one) => one !== '-' && isFile(one)).map((path) =>
             `${shownName(path)} is a file: --text keeps the characters of its path, --text-file those in it`);
-        say([...emptyOf(given, texts, lists), ...lossesOf(shownName(font), data, kind, asked), ...paths]);
+        say([...emptyOf(given, texts, lists), ...paths, ...lossesOf(shownName(font), data, kind, asked)]);
     }
 }
 
@@ -312,6 +312,9 @@ async function slicesOf(given, font) {
     return found;
 }
 
+// How many slices are named of which a font maps nothing.
+const MOST_NAMED = 8;
+
 async function runSlice(given, [path, folder, ...more]) {
     if (folder === undefined || !given.slices || more.length) {
         throw new Failed(2, 'slice takes FONT, FOLDER and --slices SLICES');
@@ -319,8 +322,9 @@ async function runSlice(given, [path, folder, ...more]) {
     const kind = kindOf(given), font = read(path);
     refusing(given, path, font, () => check(font));
     const every = await slicesOf(given, font), wanted = every.filter((one) => one.unicodes);
-    const said = every.filter((one) => !one.unicodes)
-        .map((one) => `slice ${one.name}: the font maps none of its characters`);
+    const lacking = every.filter((one) => !one.unicodes), unnamed = lacking.length - MOST_NAMED;
+    const said = lacking.slice(0, MOST_NAMED).map((one) => `slice ${one.name}: the font maps none of its characters`);
+    said.push(...unnamed > 0 ? [`other slices of which the font maps nothing: ${unnamed}`] : []);
     if (given.strict && said.length) {
         throw new Failed(1, `nothing was written: ${said.join('; ')}`);
     }
@@ -409,10 +413,10 @@ function checkName(given, out) {
     }
 }
 
-// Fails if a lean, layout or variable cut would replace its font.
-function keepItself(given, out, font, data, kind) {
+// Fails if a cut would replace its font.
+function keepItself(given, out, font, data) {
     const isSame = isFile(font) && isFile(out) && realpathSync(font) === realpathSync(out);
-    if (given.force || kind === 'full' || !isSame || isCut(data)) {
+    if (given.force || !isSame || isCut(data)) {
         return;
     }
     const more = given.quiet ? '' : `\nfontcut: name another OUT; --force replaces ${font}`;

@@ -12,8 +12,8 @@
 // A font is an ArrayBuffer or a view of one. Calls are synchronous: a worker keeps a long one off the page's thread.
 // Each call copies what it reads into a module's memory, and frees all that it took when it returns or throws.
 
-import { FontcutError, KINDS, NOT_A_CUT, NO_GLYPH, NO_MEMORY, SHAPED, SMALL_ROOM, charactersOf, kindWhere, merged,
-    pairsIn, rangeWord } from './kinds.js';
+import { DIFFERENCES, FontcutError, KINDS, NOT_A_CUT, NO_GLYPH, NO_MEMORY, SHAPED, SMALL_ROOM, charactersOf, kindWhere,
+    merged, pairsIn, rangeWord } from './kinds.js';
 import { Areas, Module, bytesOf, tagOf } from './module.js';
 import { initTexts, needed, ranges, rangesNeeded, texts } from './texts.js';
 
@@ -213,6 +213,13 @@ function warnUnshaped(font, { kind, ranges, gids, quiet }) {
     }
 }
 
+// Says of a font that it maps no character of a text: its cut draws nothing of that.
+function warnUnmapped(font, { text, unicodes, quiet }, { gids }) {
+    if (!quiet && !gids.length && !unicodes && text?.trim() && !glyphs(font, text).some((one) => one)) {
+        console.warn('fontcut: the font maps none of the wanted characters');
+    }
+}
+
 /** The cut of a font for the wanted characters and glyphs. Characters that the font does not map are ignored. */
 export function subset(font, wanted) {
     const kind = kindOf(wanted), flags = flagsOf(font, wanted);
@@ -227,6 +234,7 @@ export function subset(font, wanted) {
         return [areas.written(0, 1, make), asked];
     });
     warnUnshaped(font, { kind, ...asked, quiet: wanted.quiet });
+    warnUnmapped(font, wanted, asked);
     return cut;
 }
 
@@ -280,15 +288,16 @@ export function keptGlyphs(font, options) {
 // The kind of a file that is a cut, or undefined: the first of those that are not full.
 const kindOfCut = (file) => kindWhere((kind) => cutForm(file, { kind }) !== 'none', [...KINDS.slice(1), KINDS[0]]);
 
-// The error for a file that is joined as a full cut, with the kind of which it is a cut, and that of another file.
-function withKind(error, files) {
-    const { number, text, argument, file } = error;
-    if (!(error instanceof FontcutError) || number !== NOT_A_CUT || file === undefined) {
+// The error for a file that does not join, with the kind of which it is a cut, and that of another file. Where a kind is
+// named, or cuts differ, these are two.
+function withKind(error, files, isNamed) {
+    const { number, text, argument, file } = error, isOfTwo = isNamed || number !== NOT_A_CUT;
+    if (!(error instanceof FontcutError) || ![NOT_A_CUT, ...DIFFERENCES].includes(number) || file === undefined) {
         return error;
     }
     const at = file > 0 ? 0 : Math.min(1, files.length - 1);
     const [kind, its] = [file, at].map((one) => kindOfCut(files[one]));
-    if (kind === undefined || kind === KINDS[0]) {
+    if (kind === undefined || (isOfTwo ? its === undefined || its === kind : kind === KINDS[0])) {
         return error;
     }
     const other = its === undefined || its === kind ? undefined : { file: at, kind: its };
@@ -309,7 +318,7 @@ export function join(files, options) {
             return areas.written(room, 1, (...out) => areas.answer('join', kind, ...list, ...out), true);
         });
     } catch (error) {
-        throw options?.kind === undefined ? withKind(error, given) : error;
+        throw withKind(error, given, options?.kind !== undefined);
     }
 }
 

@@ -2,7 +2,7 @@
 // what to do.
 
 import { cutForm, subset } from './fontcut.js';
-import { LAYOUT_TABLES, NOT_A_CUT, TOO_LARGE, kindWhere } from './kinds.js';
+import { DIFFERENCES, LAYOUT_TABLES, NOT_A_CUT, TOO_LARGE, kindWhere } from './kinds.js';
 import { formatOf, recordsOf } from './losses.js';
 
 const MADE_FULL = 'a lean cut cannot be made full again: cut the font anew';
@@ -13,8 +13,6 @@ const MADE = {
 };
 // What the cmap of a cut begins with, in the current form and in the first one. docs/FORMAT.md.
 const CMAPS = ['000000020000000400000014' + '0003000a00000014000c0000', '000000010003000a0000000c000c0000'];
-// The refusals that say that cuts differ: tables, mappings, glyphs, and tables of which one is longer.
-const DIFFERENCES = [21, 22, 23, 29];
 const TWO_WAYS = 'these are cuts of two fonts, or of one that was prepared, or cut with --drop, in two ways';
 
 const hasForm = (file, kind) => kindWhere((one) => cutForm(file, { kind: one }) !== 'none', [kind]) !== undefined;

@@ -14,6 +14,8 @@ export const DONE = 0, SMALL_ROOM = 100, NO_GLYPH = 102, NO_NUMBERS = 104, BAD_T
 export const NO_MEMORY = 16, TOO_LARGE = 18, NOT_A_CUT = 20, NOTHING_TO_JOIN = 24;
 export const OF_TAGS = [5, 6, 7, 21, 29], OF_NUMBERS = [12, 15, 17, 22, 23, NO_GLYPH];
 // End of what tools/write_refusals writes.
+// The refusals that say that cuts differ: tables, mappings, glyphs, and tables of which one is longer.
+export const DIFFERENCES = [21, 22, 23, 29];
 
 /**
  * A font or a list of cuts is refused, or out of memory: `number` and `text` are those that `fontcut` prints, but for a

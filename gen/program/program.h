@@ -410,6 +410,7 @@ HIDDEN NOINLINE void font_coverage_changed_cuts_first_wrong_sum(u8 *v0, u8 *v1);
 HIDDEN flag font_coverage_changed_cuts_is_cmap_of_cut(u8 *v0, u64 v1);
 HIDDEN void font_coverage_coverage_lines_Counted_drop(u8 *v0);
 HIDDEN COLD void font_coverage_coverage_lines_Counted_text(u8 *v0, u8 *v1, flag v2);
+HIDDEN void font_coverage_coverage_lines_Coverage_with_cut(u8 *v0, u8 *v1, u8 v2, u8 v3, u64 v4, u64 v5);
 HIDDEN void font_coverage_coverage_lines_mapped_codes(u8 *v0, u8 *v1);
 HIDDEN void font_coverage_cut_kinds_cut_kind(u8 *v0, u8 *v1);
 HIDDEN void font_coverage_cut_kinds_is_cut_of(u8 *v0, u8 v1, u8 *v2);

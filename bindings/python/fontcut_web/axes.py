@@ -2,7 +2,7 @@
 from __future__ import annotations
 
 import re
-from typing import Iterable, Mapping, Tuple
+from typing import Iterable, List, Mapping, Set, Tuple
 
 from .faces import default_place
 from .pages import Page
@@ -38,18 +38,26 @@ def _is_used(tag: str, default: float, page: Page, text: str) -> bool:
     return bool(tags & {"wght": _BOLD, "slnt": _SLANTED, "ital": _SLANTED}.get(tag, frozenset()))
 
 
-def _uses(page: Page, path: str, axes: Mapping[str, float]) -> bool:
-    """Whether a page in a file uses one of these axes, which have these default values. One whose style sheets are not
+def _used(page: Page, path: str, axes: Mapping[str, float]) -> Set[str]:
+    """The axes that a page in a file uses, of these, which have these default values. One whose style sheets are not
     all there, or that scripts change, may use any."""
     sheets, lost = sheets_of(page, path)
     texts = [*(sheet.text for sheet in sheets), *(f"{one};" for one in page.attributes.get("style", ()))]
     text = COMMENT.sub(" ", "\n".join(texts))
     if lost or "scripts" in page.writers or _ANY.search(text):
-        return True
-    return any(_is_used(tag, default, page, text) for tag, default in axes.items())
+        return set(axes)
+    return {tag for tag, default in axes.items() if _is_used(tag, default, page, text)}
 
 
 def kind_for(data: bytes, pages: Iterable[Tuple[Page, str]]) -> str:
     """The kind of cuts of a font for pages in files: variable if one uses an axis of it, and layout otherwise."""
     axes = default_place(data)
-    return "variable" if axes and any(_uses(page, path, axes) for page, path in pages) else "layout"
+    return "variable" if axes and any(_used(page, path, axes) for page, path in pages) else "layout"
+
+
+def unused(data: bytes, pages: Iterable[Tuple[Page, str]]) -> List[str]:
+    """The axes of a font that no page in a file uses, where some are used: its default place on them is all that is
+    seen."""
+    axes = default_place(data)
+    used: Set[str] = set().union(*(_used(page, path, axes) for page, path in pages)) if axes else set()
+    return sorted(set(axes) - used) if used else []

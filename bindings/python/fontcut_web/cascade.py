@@ -33,6 +33,8 @@ _SMALL = "lang", "dir", "type"
 _OWN = (1 << 30,)
 _SHOWN = frozenset(["", "all"])
 _ANY = "*"
+# A selector of a rule in another one where the outer one stands against a word; and so many selectors are told apart.
+_JOINED, _MOST_NESTED = re.compile(r"[\w\])]&|&[\w*]"), 64
 _TYPES = "", "text/css"
 # What browsers say of elements (HTML, Rendering): bold ones, slanted ones, and those in the family monospace.
 _BOLDER, _BOLD = frozenset(["b", "strong"]), frozenset("h1 h2 h3 h4 h5 h6 th".split())
@@ -135,8 +137,7 @@ def _blocks(rules: Iterable[Any], is_sure: bool) -> Iterator[Tuple[str, List[Any
         if rule.type == "qualified-rule":
             yield tinycss2.serialize(rule.prelude), _declarations(rule.content), is_sure
             # Rules in a rule are about other elements.
-            for block in (one for one in rule.content if one.type == "{} block"):
-                yield from _anywhere(block.content)
+            yield from _nested(tinycss2.serialize(rule.prelude), rule.content)
         elif rule.type == "at-rule" and rule.content is not None:
             prelude = tinycss2.serialize(rule.prelude).strip().lower()
             if rule.lower_at_keyword in _CONDITIONS:
@@ -149,6 +150,41 @@ def _blocks(rules: Iterable[Any], is_sure: bool) -> Iterator[Tuple[str, List[Any
                 for one in declared:
                     one.name = prelude if one.lower_name == "initial-value" else one.name
                 yield _ANY, declared, False
+
+
+def listed(prelude: str) -> List[str]:
+    """The selectors of a list."""
+    parts: List[List[Any]] = [[]]
+    for token in tinycss2.parse_component_value_list(prelude, True):
+        if token.type == "literal" and token.value == ",":
+            parts.append([])
+        else:
+            parts[-1].append(token)
+    return [tinycss2.serialize(one).strip() for one in parts]
+
+
+def _within(prelude: str, nested: str) -> str:
+    """The selectors of a rule in another one (CSS Nesting 1); `*` where they are not known."""
+    inner, outer = listed(nested), listed(prelude)
+    if _JOINED.search(nested) or len(inner) * len(outer) > _MOST_NESTED:
+        return _ANY
+    return ", ".join(one.replace("&", around) if "&" in one else f"{around} {one}" for one in inner for around in outer)
+
+
+def _nested(prelude: str, content: Sequence[Any]) -> Iterator[Tuple[str, List[Any], bool]]:
+    """The rules in a rule with these selectors."""
+    before: List[Any] = []
+    for token in content:
+        if token.type == "{} block":
+            words = tinycss2.serialize(before).strip()
+            is_condition = words[:1] == "@" and re.split(r"[\s(]", words[1:])[0].lower() in _CONDITIONS
+            if words[:1] == "@" and not is_condition:
+                yield from _anywhere(token.content)
+            else:
+                selectors = prelude if is_condition else _within(prelude, words)
+                yield selectors, _declarations(token.content), False
+                yield from _nested(selectors, token.content)
+        before = [] if token.type == "{} block" or token.type == "literal" and token.value == ";" else [*before, token]
 
 
 def _declarations(content: Sequence[Any]) -> List[Any]:
@@ -207,15 +243,14 @@ class Cascade:
     def __init__(self, data: bytes, folder: str, is_own: Callable[[str], bool]) -> None:
         self.document, self.is_exact = document_of(data)
         sheets = list(sheets_in(self.document, folder, is_own))
-        blocks = [(number, *block) for number, sheet in enumerate(sheets)
-                  for block in _blocks(tinycss2.parse_stylesheet(sheet.text, True, True),
-                                       sheet.is_sure and self.is_exact)]
+        self.blocks = [(number, *block) for number, sheet in enumerate(sheets)
+                       for block in _blocks(tinycss2.parse_stylesheet(sheet.text, True, True),
+                                            sheet.is_sure and self.is_exact)]
         self.inline = {node: _declarations(tinycss2.parse_component_value_list(str(node.get("style"))))
                        for node in self.document.iter() if node.get("style")}
-        self.custom = _custom([*(block for _, _, block, _ in blocks), *self.inline.values()])
-        self.named = {name for _, _, block, _ in blocks for one in block for name in [one.lower_name]}
+        self.custom = _custom([*(block for _, _, block, _ in self.blocks), *self.inline.values()])
         self.matcher, self.others = cssselect2.Matcher(), []  # type: Any, List[Tuple[Subject, List[Declared]]]
-        for number, prelude, block, is_sure in blocks:
+        for number, prelude, block, is_sure in self.blocks:
             self._add(number, prelude, block, is_sure)
 
     def _add(self, number: int, prelude: str, block: Sequence[Any], is_sure: bool) -> None:

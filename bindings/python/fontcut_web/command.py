@@ -10,10 +10,11 @@ from importlib.util import find_spec
 from typing import List, Optional, Sequence
 
 import fontcut
-from fontcut_output import CommandParser, Progress, print_line, read, reason, write
+from fontcut_output import CommandParser, Progress, print_line, read, reason, tell_of_others, write
 
 from . import texts, use
-from .common import DISPLAYS, LAYOUT_TABLES, SHAPED, Missing, MissingProgram, Refused, UsageError, need, part
+from .common import DISPLAYS, Missing, MissingProgram, Refused, UsageError, need, part
+from .inputs import dropped_tables
 from .presets import PARTS, SIZES, languages, web
 from .replaced import check_name, check_read, check_unpacked, check_whole, check_written
 from .sets import AUTO, MOST_EQUAL, WEB
@@ -199,22 +200,12 @@ If OUT is another whole font, nothing is written without --force.
 """
 
 
-def _dropped(given: argparse.Namespace) -> List[str]:
-    """The layout tables that fonts are cut without."""
-    tables = [tag.strip() for listed in given.drop or [] for tag in listed.split(",")]
-    if tables and given.kind not in SHAPED:
-        raise UsageError("--drop is for layout and variable cuts: others have no layout tables")
-    for tag in tables:
-        if tag not in LAYOUT_TABLES:
-            raise UsageError(f"--drop {tag}: the tables are {', '.join(LAYOUT_TABLES)}")
-    return tables
-
-
 def _run_slice(given: argparse.Namespace) -> None:
     need("fontTools", *["brotli"] if given.woff2 else [])
     slicing = part("slicing")
-    how = slicing.SliceOptions(given.kind, given.woff2, given.css, given.display, given.strict, _dropped(given),
-                               given.rest, given.force, given.as_is)
+    drop = dropped_tables(given.drop or [], given.kind)
+    how = slicing.SliceOptions(given.kind, given.woff2, given.css, given.display, given.strict, drop, given.rest,
+                               given.force, given.as_is)
     paths, wanted = use.fonts_and_slices(given)
     with Progress("fontcut-web", given.quiet) as progress:
         progress.say(f"reading {len(paths)} fonts")
@@ -274,6 +265,11 @@ def _as_is(command: argparse.ArgumentParser) -> None:
                          help="cut FONT as it is, without preparing it: such cuts join with its other cuts")
 
 
+def _drop(command: argparse.ArgumentParser) -> None:
+    command.add_argument("--drop", metavar="TABLES", action="append",
+                         help="in layout and variable cuts, cut as if FONT lacked these layout tables, as GSUB,kern")
+
+
 def _display(command: argparse.ArgumentParser) -> None:
     command.add_argument("--display", metavar="VALUE", choices=DISPLAYS, default="swap",
                          help=f"font-display in the style sheet: {', '.join(DISPLAYS)} (swap)")
@@ -294,9 +290,7 @@ def _add_slice(commands: argparse._SubParsersAction[CommandParser]) -> None:
            variable="write variable cuts, whose rules have ranges (the default of variable fonts)",
            full="write full cuts")
     _as_is(command)
-    command.add_argument("--drop", metavar="TABLES", action="append",
-                         help="with --layout or --variable, cut fonts without these layout tables, as "
-                              "GSUB,kern")
+    _drop(command)
     command.add_argument("--rest", action="store_true",
                          help="write the characters that are left of the scripts of the slices, and of no script, as a "
                               "last slice")
@@ -332,12 +326,13 @@ def _add_text(commands: argparse._SubParsersAction[CommandParser]) -> None:
         "text", help="cut a font for the characters that pages show", description=f"{_TEXT}\n{_OF_TEXT}\n",
         formatter_class=_RAW, epilog=_STATUS,
         usage="fontcut-web text PAGE.. FONT OUT [--lean | --layout | --variable | --full] [--as-is]\n"
-              "                        [--text TEXT] [--shaped] [--features LIST] [--check] [--css] [--display VALUE]\n"
-              "                        [--strict] [--force] [--quiet] [--json]")
+              "                        [--drop TABLES] [--text TEXT] [--shaped] [--features LIST] [--check] [--css]\n"
+              "                        [--display VALUE] [--strict] [--force] [--quiet] [--json]")
     command.add_argument("files", metavar="PAGE.. FONT OUT", nargs="+", help=argparse.SUPPRESS)
     _kinds(command, None, lean="write a lean cut", layout="write a layout cut (the default)",
            variable="write a variable cut (the default where pages use axes)", full="write a full cut")
     _as_is(command)
+    _drop(command)
     command.add_argument("--text", metavar="TEXT", help="more characters to keep")
     command.add_argument("--shaped", action="store_true", help="write an exact cut: of just the glyphs of the text")
     command.add_argument("--features", metavar="LIST", action="append",
@@ -401,8 +396,8 @@ def _add_prepare(commands: argparse._SubParsersAction[CommandParser]) -> None:
     command.add_argument("--names", choices=("keep", "least"), default="keep",
                          help="keep all names of the font, or in English alone those that systems need (keep)")
     command.add_argument("--kern", choices=("auto", "keep", "drop"), default="auto",
-                         help="keep the table kern: auto keeps it where browsers take it and GPOS does not kern a script "
-                              "(auto)")
+                         help="keep the table kern: auto keeps it where browsers take it and GPOS does not kern a "
+                              "script (auto)")
     command.add_argument("--force", action="store_true", help="write over another whole font")
     command.add_argument("--json", action="store_true", help="print OUT.json, and not what was dropped")
     command.set_defaults(run=_run_prepare)
@@ -415,7 +410,8 @@ def _run_site(given: argparse.Namespace) -> None:
 def _add_site(commands: argparse._SubParsersAction[CommandParser]) -> None:
     command = commands.add_parser("site", help="make the fonts of all pages of a site", description=_SITE,
                                   formatter_class=_RAW, epilog=_STATUS,
-                                  usage="fontcut-web site DIR [--anew] [--check] [--whole] [--json]")
+                                  usage="fontcut-web site DIR [--anew] [--check] [--whole] [--strict] [--quiet] "
+                                        "[--json]")
     command.add_argument("folder", metavar="DIR", help="the folder of the site, with its settings and its pages")
     command.add_argument("--anew", action="store_true", help="make all fonts anew, without characters that no page has "
                                                              "any more")
@@ -424,6 +420,8 @@ def _add_site(commands: argparse._SubParsersAction[CommandParser]) -> None:
                                                               "changed are not drawn again")
     command.add_argument("--whole", action="store_true", help="tell the bytes of the whole fonts as WOFF2 too, which "
                                                               "takes minutes for a large font the first time")
+    command.add_argument("--strict", action="store_true", help="write nothing if fonts lack characters of a page")
+    command.add_argument("--quiet", action="store_true", help="say nothing of pages, fonts and bytes")
     command.add_argument("--json", action="store_true", help="print site.json, and no table")
     command.set_defaults(run=_run_site)
 
@@ -467,6 +465,7 @@ def _parser() -> argparse.ArgumentParser:
     commands = parser.add_subparsers(dest="command", required=True, metavar="COMMAND", parser_class=CommandParser)
     for add in _add_prepare, _add_slice, _add_slices, _add_text, _add_icons, _add_site, _add_device, _add_decode:
         add(commands)
+    tell_of_others(commands.choices)
     return parser
 
 
@@ -476,8 +475,10 @@ def _status(error: BaseException, install: str) -> int:
     said = {Missing: f"{error}: {ways}", MemoryError: "no memory"}.get(type(error), str(error))
     if isinstance(error, OSError):
         said = reason(error)
-    print(f"fontcut-web: {said}", file=sys.stderr)
-    return {UsageError: 2, Refused: 1, fontcut.Refused: 1, MemoryError: 1}.get(type(error), 3)
+    for line in said.split("\n"):
+        print(f"fontcut-web: {line}", file=sys.stderr)
+    refusals = Refused, fontcut.Refused, MemoryError
+    return 2 if isinstance(error, UsageError) else 1 if isinstance(error, refusals) else 3
 
 
 def main(words: Optional[Sequence[str]] = None, install: str = INSTALL) -> int:

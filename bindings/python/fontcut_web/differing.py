@@ -9,8 +9,8 @@ from typing import Any, Callable, Dict, List, NamedTuple, Optional, Sequence
 
 from fontcut_output import write
 
-# The first pixel by which two pictures differ, and the rectangle of all of those that do; nothing, where one is but
-# higher than the other.
+# The leftmost pixel of the first line by which two pictures differ, and the rectangle of all that do; nothing, where
+# one is but higher than the other.
 _COMPARE = """(async () => {
     const every = [];
     for (const picture of %s) {
@@ -31,17 +31,34 @@ _COMPARE = """(async () => {
     }
     const least = all => all.reduce((some, each) => Math.min(some, each));
     const most = all => all.reduce((some, each) => Math.max(some, each));
-    return xs.length ? [xs[0], ys[0], least(xs), least(ys), most(xs), most(ys)] : [];
+    let first = 0;
+    for (let at = 0; at < xs.length && ys[at] < ys[0] + 16; at++) {
+        if (xs[at] < xs[first]) first = at;
+    }
+    return xs.length ? [xs[first], ys[first], least(xs), least(ys), most(xs), most(ys)] : [];
 })()"""
-# The element at a place of a page, what it says, and its fonts.
+# The element at a place of a page, what it says, its fonts, and the part of it that style sheets add there, with what
+# they add.
 _ELEMENT = """((x, y) => {
     scrollTo(0, Math.max(0, y - 100));
     const one = document.elementFromPoint(x - scrollX, y - scrollY);
-    if (!one) return ["", "", ""];
+    if (!one) return ["", "", "", "", ""];
+    const texts = document.createTreeWalker(one, NodeFilter.SHOW_TEXT), range = document.createRange();
+    let isText = false;
+    while (texts.nextNode()) {
+        range.selectNodeContents(texts.currentNode);
+        isText ||= [...range.getClientRects()].some(each => each.left <= x - scrollX && x - scrollX <= each.right
+                                                    && each.top <= y - scrollY && y - scrollY <= each.bottom);
+    }
+    const added = ["::before", "::after"].map(part => [part, getComputedStyle(one, part).content])
+        .filter(each => !isText && each[1] !== "none" && each[1] !== "normal");
     const name = [one.localName, ...one.classList].join("."), text = (one.innerText || "").trim();
-    return [name, text.split(/\\s+/).join(" ").slice(0, 40), getComputedStyle(one).fontFamily];
+    return [name, text.split(/\\s+/).join(" ").slice(0, 40), getComputedStyle(one).fontFamily,
+            added.map(each => each[0]).join(" or "), added.map(each => each[1]).join(" or ")];
 })(%d, %d)"""
 
+# How much is said of what style sheets add.
+_LONGEST = 80
 # How a page of the browser is told something.
 Ask = Callable[..., Dict[str, Any]]
 
@@ -76,13 +93,14 @@ def words_of(ask: Ask, place: Optional[Sequence[int]], names: Callable[[str], st
         return ", whose picture is higher or lower"
     x, y, left, top, right, bottom = place
     element = _asked(ask, _ELEMENT % (x, y)) or []
-    if len(element) != 3 or not all(isinstance(one, str) for one in element):
+    if len(element) != 5 or not all(isinstance(one, str) for one in element):
         return ""
-    name, text, families = element
+    name, text, families, part, content = element
     fonts = names(families)
     drawn_in = f", drawn in {fonts}" if fonts else ""
-    return (f", first at {x}, {y} in {name or 'the page'} {text!r}{drawn_in}; what differs is from {left}, {top} to "
-            f"{right}, {bottom}")
+    added = f", where style sheets add {content[:_LONGEST]}" if part else ""
+    return (f", first at {x}, {y} in {name or 'the page'}{part} {text!r}{added}{drawn_in}; what differs is from {left}, "
+            f"{top} to {right}, {bottom}")
 
 
 def kept(difference: Difference) -> str:

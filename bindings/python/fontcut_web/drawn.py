@@ -37,7 +37,8 @@ _LEAST = 3
 # How long scripts of a page run, by its own clock.
 _MILLISECONDS = 10000
 # Waits until the fonts are there that a page asks for when it is laid out, and lays all of it out anew by these: digits
-# upright in vertical lines keep the width that another font gave them.
+# upright in vertical lines keep the width that another font gave them. What is animated is drawn as it ends, and
+# without what has no end: pictures are of different moments.
 _FONTS = """(async () => {
     const root = document.documentElement;
     do {
@@ -49,6 +50,13 @@ _FONTS = """(async () => {
     root.getBoundingClientRect();
     root.style.removeProperty("display");
     root.getBoundingClientRect();
+    for (const one of document.getAnimations()) {
+        try {
+            one.finish();
+        } catch {
+            one.cancel();
+        }
+    }
 })()"""
 # Elements with pages of their own.
 _OTHERS = "iframe", "frame", "object", "embed"
@@ -281,8 +289,7 @@ def _difference(one: Compared, tabs: _Tabs, folder: str, name: str) -> Optional[
 
 
 def _differences(program: str, every: Sequence[Compared]) -> List[Optional[Difference]]:
-    """How each page is drawn otherwise by a cut than by the whole font, if it is, up to the first of these: no other is
-    told."""
+    """How each page is drawn otherwise by a cut than by the whole font, if it is."""
     found: List[Optional[Difference]] = []
     with _browsing(program) as (browser, folder):
         tabs = _Tabs(browser)
@@ -291,8 +298,7 @@ def _differences(program: str, every: Sequence[Compared]) -> List[Optional[Diffe
                 found.append(_difference(one, tabs, folder, str(len(found))))
             except Failed as failed:
                 found.append(Difference(f"{os.path.basename(program)} draws no picture of it: {failed}"))
-            if found[-1]:
-                break
+                tabs = _Tabs(browser)
     return found
 
 
@@ -311,13 +317,35 @@ def _placed(program: str, one: Compared, difference: Difference) -> Difference:
         return difference
 
 
+class Differs(Refused):
+    """Pages are drawn otherwise by cuts than by whole fonts: a line for each."""
+
+    def __init__(self, lines: Sequence[str]):
+        super().__init__(lines)
+
+    def __str__(self) -> str:
+        return "\n".join(self.args[0])
+
+
 def check(every: Sequence[Compared]) -> None:
-    """Raises `Refused` for the first page that is not drawn by a cut as by the whole font."""
+    """Raises `Differs` for the pages that are not drawn by a cut as by the whole font."""
+    lines = [f"{one.page}: {line}" for one, line in zip(every, differences(every)) if line]
+    if lines:
+        raise Differs(lines)
+
+
+def differences(every: Sequence[Compared]) -> List[str]:
+    """What is said of each page that is not drawn by a cut as by the whole font; nothing of others."""
+    if not every:
+        return []
     program, count = _program(), min(processors(), -(-len(every) // _LEAST))
     parts = [every[first::count] for first in range(count)]
     said = side_by_side([functools.partial(_differences, program, part) for part in parts])
-    for number, one in enumerate(every):
-        part = said[number % count]
-        difference = part[number // count] if number // count < len(part) else None
-        if difference:
-            raise Refused(f"{one.page}: {kept(_placed(program, one, difference))}")
+    found = [(one, said[number % count][number // count]) for number, one in enumerate(every)]
+    told = iter(side_by_side([functools.partial(_told, program, one, how) for one, how in found if how]))
+    return [next(told) if how else "" for _, how in found]
+
+
+def _told(program: str, one: Compared, difference: Difference) -> str:
+    """What is said of a page that differs."""
+    return kept(_placed(program, one, difference))

@@ -9,6 +9,7 @@ from typing import Any, Callable, Dict, FrozenSet, Iterable, Iterator, List, Nam
 
 from .cascade import Cascade, tag_of
 from .font_values import ANY, ANY_STYLE, ANY_WEIGHT, Families, Fonts
+from .generated import AFTER, BEFORE, Contents, Line, lines_with
 from .pages import INLINE, SILENT, is_drawn, is_field
 from .selected import Selected
 from .shown import Additions
@@ -23,13 +24,14 @@ _NEAR = {"italic": ("italic", "oblique", "normal"), "oblique": ("oblique", "ital
 
 class Choice(NamedTuple):
     """A font that elements may have: its family in small letters, its style, the least and the greatest of its weights,
-    its width, and the characters that it has."""
+    its width, the characters that it has, and whether these are typed by the names of icons."""
 
     family: str
     style: str
     weights: Tuple[float, float]
     stretch: str
     codes: FrozenSet[int]
+    has_icons: bool = False
 
 
 def _by_style(faces: Sequence[int], every: Sequence[Choice], style: str) -> List[int]:
@@ -84,6 +86,11 @@ class Chooser:
         every = frozenset(range(len(self.every))) if ANY in fonts.families else frozenset()
         return every.union(*(self.faces(name, fonts.weights, fonts.styles) for names in fonts.families
                              for name in names))
+
+    def is_known(self, fonts: Fonts) -> bool:
+        """Whether an element has some of these fonts, whatever list of families it has."""
+        return ANY not in fonts.families and all(any(self.faces(name, fonts.weights, fonts.styles) for name in names)
+                                                 for names in fonts.families)
 
     def _chosen(self, fonts: Fonts, word: str) -> FrozenSet[int]:
         """The fonts that may draw a word of an element."""
@@ -170,11 +177,13 @@ _BLANKS = {code: " " for code in (*range(0x21), *range(0x7F, 0xA0))}
 
 
 class Asked(NamedTuple):
-    """What is asked of a page in a file: what each font may draw of it, with what browsers add; whether its own style
-    sheets are at an address; the languages that it names; and whether readers write other text to it."""
+    """What is asked of a page in a file: what each font may draw of it, with what browsers add, and the characters of
+    numbers in lines; whether its own style sheets are at an address; the languages that it names; and whether readers
+    write other text to it."""
 
     path: str
     added: Additions
+    numbers: str
     is_own: Callable[[str], bool]
     languages: Sequence[str]
     is_written: bool
@@ -202,15 +211,91 @@ def _with_added(cascade: Cascade, fonts: Dict[Any, Fonts], added: Sequence[Added
         yield one.text, {fonts[node] for node in every if node in fonts and tag_of(node) not in _HEAD}
 
 
-def drawn_texts(data: bytes, asked: Asked, every: Sequence[Choice]) -> Tuple[Dict[int, List[str]], Set[str]]:
-    """The lines that each of the fonts may draw of a page, if it may draw any, or a blank: that of the font of an
-    element makes the height of its lines. And all letters of the page that were read."""
+class Lacked(NamedTuple):
+    """Letters of elements of a name that none of their fonts has."""
+
+    tag: str
+    faces: FrozenSet[int]
+    codes: Set[int]
+
+
+def _icons(fonts: Dict[Any, Fonts], chooser: Chooser, contents: Contents) -> Dict[int, Set[str]]:
+    """The words of elements that a font of icons draws alone."""
+    found: Dict[int, Set[str]] = {face: set() for face, one in enumerate(chooser.every) if one.has_icons}
+    for node, its in fonts.items() if found else ():
+        for word in () if tag_of(node) in SILENT or tag_of(node) in _HEAD else _own_text(node, contents).split():
+            faces = chooser.chosen(its, word)
+            if len(faces) == 1 and chooser.is_known(its) and not faces.isdisjoint(found):
+                found[min(faces)].add(word)
+    return found
+
+
+class Drawn(NamedTuple):
+    """The lines that each font may draw of a page, if it may draw any, or a blank: that of the font of an element makes
+    the height of its lines; the characters of those of which not all is known; all letters of the page that were read;
+    those that no font of their own element has; the words of elements that a font of icons draws alone; and the
+    families that elements have."""
+
+    lines: Dict[int, List[str]]
+    open: Dict[int, List[str]]
+    letters: Set[str]
+    lacked: List[Lacked]
+    icons: Dict[int, Set[str]]
+    families: Set[str]
+
+
+def _own_text(node: Any, contents: Contents) -> str:
+    """The text that an element draws in its own font."""
+    tag = tag_of(node)
+    added = [text for place in (BEFORE, AFTER) for text in contents.of(node, place).texts]
+    return "".join([node.text or "", *(child.tail or "" for child in node), *_attributes(node, tag), *added])
+
+
+def _lacked(fonts: Dict[Any, Fonts], chooser: Chooser, contents: Contents) -> Iterator[Lacked]:
+    """The letters of elements that no font has which they may have. Those that may have none of the fonts are left to
+    the system."""
+    found: Dict[Tuple[str, FrozenSet[int]], Set[int]] = {}
+    for node, its in fonts.items():
+        tag = tag_of(node)
+        if tag in SILENT or tag in _HEAD or not chooser.is_known(its):
+            continue
+        faces = chooser.all_of(its)
+        codes = {ord(letter) for letter in _own_text(node, contents) if letter.isprintable() and letter != " "}
+        found.setdefault((tag, faces), set()).update(codes.difference(*(chooser.every[face].codes for face in faces)))
+    yield from (Lacked(tag, faces, codes) for (tag, faces), codes in found.items() if codes)
+
+
+def _chosen(chooser: Chooser, block: Sequence[_Piece]) -> List[Tuple[str, FrozenSet[int]]]:
+    """The words of a block, with the fonts that may draw them."""
+    return [(word, frozenset().union(*(chooser.chosen(one, word) for one in its))) for word, its in _words(block)]
+
+
+def _within(chooser: Chooser, every: Iterable[Line], fonts: Dict[Any, Fonts], lines: List[List[str]]
+            ) -> Dict[int, List[str]]:
+    """Adds the lines of each font with what style sheets add to them; returns those of which not all is known."""
+    unknown: Dict[int, Dict[str, None]] = {}
+    for line in every:
+        pieces = [(text, fonts[node]) for text, node in line.pieces if node in fonts]
+        if not line.open:
+            _running(lines, [_chosen(chooser, pieces)])
+            continue
+        words = [*_chosen(chooser, pieces), *(row for its in dict.fromkeys(its for _, its in pieces)
+                                              for row in _chosen(chooser, [(line.open, its)]))]
+        for face in frozenset().union(*(faces for _, faces in words)):
+            unknown.setdefault(face, {})[" ".join(word for word, faces in words if face in faces)] = None
+    return {face: list(some) for face, some in unknown.items()}
+
+
+def drawn_texts(data: bytes, asked: Asked, every: Sequence[Choice]) -> Drawn:
+    """What each of the fonts may draw of a page."""
     cascade = Cascade(data, os.path.dirname(asked.path), asked.is_own)
     fonts, chooser = dict(cascade.fonts()), Chooser(every, list(asked.added.cases), asked.languages)
     lines: List[List[str]] = [[] for _ in every]
-    blocks = [list(_words(block)) for block in _pieces(cascade.document, fonts)]
-    _running(lines, ([(word, frozenset().union(*(chooser.chosen(one, word) for one in its))) for word, its in block]
-                     for block in blocks))
+    pieces = list(_pieces(cascade.document, fonts))
+    blocks = [list(_words(block)) for block in pieces]
+    _running(lines, (_chosen(chooser, block) for block in pieces))
+    contents = Contents(cascade, asked.languages, asked.numbers)
+    unknown = _within(chooser, lines_with(contents), fonts, lines)
     # Where readers write, other words of the page are likely.
     written = (node for node in fonts if is_field(tag_of(node), node.attrib))
     fields = {fonts[each] for node in written for each in node.iter() if each in fonts}
@@ -222,4 +307,6 @@ def drawn_texts(data: bytes, asked: Asked, every: Sequence[Choice]) -> Tuple[Dic
     used: Set[int] = set().union(*(chooser.all_of(one) if asked.is_written else chooser.chosen(one, " ")
                                    for one in several))
     found = {face: list(dict.fromkeys(some)) for face, some in enumerate(lines) if some or face in used}
-    return found, {letter for block in blocks for word, _ in block for letter in word}
+    return Drawn(found, unknown, {letter for block in blocks for word, _ in block for letter in word},
+                 list(_lacked(fonts, chooser, contents)), _icons(fonts, chooser, contents),
+                 {name for one in fonts.values() for names in one.families for name in names})

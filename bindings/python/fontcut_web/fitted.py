@@ -18,16 +18,20 @@ from .sequences import without_selectors
 from .shaping import Setting, place_of
 
 
-def _how(codes: Sequence[int], features: Iterable[str]) -> PrepareOptions:
-    """How a font is prepared for some of its characters, with the features that shapers use and others."""
-    return PrepareOptions(codes, sorted({*preparing.default_features(), *features}), names="least")
+def _how(codes: Sequence[int], features: Iterable[str], unused: Sequence[str] = ()) -> PrepareOptions:
+    """How a font is prepared for some of its characters, with the features that shapers use and others, and without
+    some axes."""
+    return PrepareOptions(codes, sorted({*preparing.default_features(), *features}), limits=dict.fromkeys(unused),
+                          names="least")
 
 
-def fitted(font: fontcut.Font, codes: Sequence[int], kind: str, features: Iterable[str] = ()) -> fontcut.Font:
-    """A font, prepared for cuts of a kind for some of its characters, with the features that shapers use and others.
-    Raises `Refused` where that cannot be."""
-    how = _how(codes, features)
-    made = preparing.with_layout_for(font.data, how, sorted(characters.scripts_of(map(chr, codes))))
+def fitted(font: fontcut.Font, codes: Sequence[int], kind: str, features: Iterable[str] = (), unused: Sequence[str] = ()
+           ) -> fontcut.Font:
+    """A font, prepared for cuts of a kind for some of its characters, with the features that shapers use and others,
+    and without axes of which its default place alone is seen. Raises `Refused` where that cannot be."""
+    how, scripts = _how(codes, features, unused), sorted(characters.scripts_of(map(chr, codes)))
+    made = preparing.prepared(font.data, how, scripts).data if unused else \
+        preparing.with_layout_for(font.data, how, scripts)
     try:
         found = fontcut.Font(made)
         fontcut.cut_size(found, [], kind=kind)
@@ -47,9 +51,9 @@ def layout_size(font: fontcut.Font) -> int:
     return sum(len(reader[tag]) for tag in LAYOUT_TABLES if tag in reader)
 
 
-def _places(data: bytes, kind: str) -> List[Mapping[str, float]]:
-    """Places of the axes of a font at which its cuts of a kind are tried: the default one, and the ends of all."""
-    axes = axes_of(data) if kind == "variable" else {}
+def _places(cut: bytes, kind: str) -> List[Mapping[str, float]]:
+    """Places of the axes of a cut of a kind at which it is tried: the default one, and the ends of all."""
+    axes = axes_of(cut) if kind == "variable" else {}
     return [{}, *({tag: values[end] for tag, values in axes.items()} for end in (0, 1) if axes)]
 
 
@@ -65,7 +69,7 @@ def check(path: str, font: fontcut.Font, cut: bytes, kind: str, texts: Sequence[
     with tempfile.TemporaryDirectory() as folder:
         whole = file_in(folder, "whole.ttf", preparing.as_taken(font.data, _how((), ())))
         made = file_in(folder, "cut.ttf", cut)
-        for place in _places(font.data, kind):
+        for place in _places(cut, kind):
             for features in sets:
                 setting = Setting(features=features, place=place_of(place))
                 text = shaping.difference((whole, made), texts, (setting, setting))

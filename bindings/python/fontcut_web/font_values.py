@@ -96,7 +96,7 @@ def _values_of(call: Any, custom: Custom) -> List[List[Any]]:
     return [list(value) for value in custom.get(key, ())] + ([list(call.arguments[len(name) + 1:])] if others else [])
 
 
-def _resolved(tokens: Sequence[Any], custom: Custom, depth: int = 0) -> Iterator[List[Any]]:
+def resolved(tokens: Sequence[Any], custom: Custom, depth: int = 0) -> Iterator[List[Any]]:
     """What tokens stand for where custom properties may have any of their values. A call is left that has none, or one
     of too many, which is not understood then."""
     at = next((at for at, one in enumerate(tokens) if one.type == "function" and one.lower_name == "var"), None)
@@ -105,7 +105,7 @@ def _resolved(tokens: Sequence[Any], custom: Custom, depth: int = 0) -> Iterator
         yield list(tokens)
         return
     for value in values:
-        yield from _resolved([*tokens[:at], *value, *tokens[at + 1:]], custom, depth + 1)
+        yield from resolved([*tokens[:at], *value, *tokens[at + 1:]], custom, depth + 1)
 
 
 def _family(tokens: Sequence[Any]) -> Change:
@@ -172,7 +172,7 @@ def changes_of(name: str, tokens: Sequence[Any], custom: Custom) -> Dict[str, Li
     """What a declaration makes of each of the three properties, in each way in which custom properties may be set."""
     found: Dict[str, List[Change]] = {}
     if name in ("font", "all", FAMILY, WEIGHT, STYLE):
-        for value in _resolved(tokens, custom):
+        for value in resolved(tokens, custom):
             for each, change in _changes(name, value).items():
                 found.setdefault(each, []).append(change)
     return found

@@ -8,7 +8,7 @@ import io
 import json
 import os
 import re
-from typing import Dict, Iterator, List, NamedTuple, Optional, Sequence, Tuple
+from typing import Dict, Iterable, Iterator, List, NamedTuple, Optional, Sequence, Set, Tuple
 
 import fontcut
 from fontcut_output import print_line, read, write
@@ -24,16 +24,20 @@ from .sheet import address_of, block, declarations, page_of, sheet_of
 from .woff import packed
 
 SHEET, PAGE = "icons.css", "icons.html"
-# How many names are told that are near to one that is not there.
-_NEAR = 3
+# How many names are told that are near to one that is not there; and how near a word of a text is to one at least.
+_NEAR, _NEARER = 3, 0.75
 # A line of a file of code points: a name, and a code in hexadecimal.
 _LINE = re.compile(r"(\S+)[ \t]+(?:U\+|0x)?([0-9A-Fa-f]{1,6})")
 # Types of lookups of GSUB: a ligature, and one whose table stands elsewhere. Names of `post` that are made up.
 _LIGATURE, _EXTENSION, _WITHOUT_NAMES = 4, 7, 3.0
+# A word that is typed for an icon.
+_TYPED = re.compile(r"[A-Za-z][A-Za-z0-9_]+")
 # How many letters a word has at least: ligatures of text are of two or three.
 _WORD = 4
 # Codes that have no character of their own, of which an icon has one.
 _PRIVATE = range(0xE000, 0xF900)
+# A font of icons has so many of these at least.
+_LEAST = 20
 
 
 class Icon(NamedTuple):
@@ -82,6 +86,12 @@ def _ligatures(opened: TTFont) -> Iterator[Tuple[List[str], str]]:
                 yield from (([first, *row.Component], row.LigGlyph) for row in rows)
 
 
+def may_have_icons(font: fontcut.Font) -> bool:
+    """Whether a font has as many characters without a meaning of their own as fonts of icons have, which is soon known.
+    """
+    return sum(code in _PRIVATE for code in codes_of(font)) >= _LEAST
+
+
 def is_of_icons(font: fontcut.Font) -> bool:
     """Whether the ligatures of a font are icons: most of them are typed as a word, as those of no text are."""
     letters = _letters(font)
@@ -91,6 +101,32 @@ def is_of_icons(font: fontcut.Font) -> bool:
     except MALFORMED:
         return False
     return 2 * sum(len(parts) >= _WORD for parts in typed) > len(typed)
+
+
+def unmade(font: fontcut.Font, words: Iterable[str], is_of_text: bool = False) -> List[str]:
+    """What is said of words that no ligatures of a font of icons make, with the nearest that they do. Those that may be
+    of a text are meant for icons if they are near to one."""
+    letters, opened = _letters(font), TTFont(io.BytesIO(font.data), lazy=True)
+    typed = {"".join(letters.get(opened.getGlyphID(part), " ") for part in parts) for parts, _ in _ligatures(opened)}
+    others = sorted(word for word in words if _TYPED.fullmatch(word) and not _is_made(word, typed))
+    if is_of_text:
+        others = [word for word in others if word.islower() and difflib.get_close_matches(word, typed, 1, _NEARER)]
+    return [_no_icon(word, typed) for word in others]
+
+
+def _is_made(word: str, typed: Set[str]) -> bool:
+    """Whether a word is one of some, or several of these in a row."""
+    ends = {0}
+    for last in range(1, len(word) + 1):
+        if any(word[first:last] in typed for first in ends):
+            ends.add(last)
+    return len(word) in ends
+
+
+def _no_icon(name: str, names: Iterable[str]) -> str:
+    """What is said of an icon that is not there, with the nearest ones."""
+    near = difflib.get_close_matches(name, names, _NEAR)
+    return f"no icon {name!r}" + (f" (nearest: {', '.join(near)})" if near else "")
 
 
 def _glyph_names(font: fontcut.Font) -> Iterator[Tuple[str, int]]:
@@ -126,11 +162,7 @@ def _points_beside(path: str) -> Optional[str]:
 
 def chosen(names: Sequence[str], codes: Dict[str, int]) -> List[Icon]:
     """The icons of some names, each once. Raises `Refused` for names that are not there, with the nearest."""
-    said = []
-    for name in dict.fromkeys(names):
-        near = difflib.get_close_matches(name, codes, _NEAR)
-        if name not in codes:
-            said.append(f"no icon {name!r}" + (f" (nearest: {', '.join(near)})" if near else ""))
+    said = [_no_icon(name, codes) for name in dict.fromkeys(names) if name not in codes]
     if said:
         raise Refused("; ".join(said))
     return [Icon(name, codes[name]) for name in dict.fromkeys(names)]

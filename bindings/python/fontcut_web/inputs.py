@@ -2,16 +2,17 @@
 from __future__ import annotations
 
 import contextlib
+import difflib
 import hashlib
 import os
 import tempfile
-from typing import Iterable, Iterator, List, Sequence
+from typing import Iterable, Iterator, List, Optional, Sequence
 
 import fontcut
 from fontcut_output import read, write
 
 from . import pages
-from .common import FONTS, WOFF, WOFF2, Refused, UsageError, part
+from .common import FONTS, LAYOUT_TABLES, SHAPED, WOFF, WOFF2, Refused, UsageError, part
 from .formats import format_of
 
 
@@ -82,6 +83,20 @@ def as_file(path: str, font: fontcut.Font) -> Iterator[str]:
         unpacked = os.path.join(folder, f"{os.path.basename(path)}.ttf")
         write(unpacked, font.data)
         yield unpacked
+
+
+def dropped_tables(words: Sequence[str], kind: Optional[str]) -> List[str]:
+    """The layout tables that fonts are cut without, by lists of these. Raises `UsageError` for others, and for a kind
+    that is named and has none."""
+    tables = [tag.strip() for listed in words for tag in listed.split(",")]
+    for tag in tables:
+        if tag not in LAYOUT_TABLES:
+            near = difflib.get_close_matches(tag.upper(), LAYOUT_TABLES, 1, 0.5)
+            raise UsageError(f"--drop {tag}: the tables are {', '.join(LAYOUT_TABLES)}"
+                             f"{f': did you mean {near[0]}?' if near else ''}")
+    if tables and kind not in (None, *SHAPED):
+        raise UsageError("--drop is for layout and variable cuts: others have no layout tables")
+    return tables
 
 
 def mapped(font: fontcut.Font, letters: Iterable[str]) -> List[int]:

@@ -1,16 +1,18 @@
 """Which rules of style sheets may be about an element of a page, as far as no script changes it."""
 from __future__ import annotations
 
+import contextlib
 import functools
 import importlib
+import os
 import re
 from importlib.util import find_spec
-from typing import Optional, Sequence, Set
+from typing import List, Optional, Sequence, Set, Tuple
 
 from fontcut_output import read
 
 from .elements import Element
-from .pages import Page
+from .pages import Page, lines_of
 from .rules import Selectors
 from .styles import Matching
 
@@ -34,7 +36,7 @@ def _near(page: Page, every: Sequence[Selectors]) -> Set[Selectors]:
     return {one for one in every if any(subject.may_be(element) for subject in one.subjects for element in elements)}
 
 
-def _matching(page: Page, path: str, every: Sequence[Selectors]) -> Set[Selectors]:
+def matched(page: Page, path: str, every: Sequence[Selectors]) -> Set[Selectors]:
     """Those of some selectors that may be about an element of a page in a file."""
     near = _near(page, every)
     asked = [one for one in near if one.is_whole and not _PLAIN.fullmatch(one.prelude)]
@@ -48,7 +50,19 @@ def _matching(page: Page, path: str, every: Sequence[Selectors]) -> Set[Selector
     return near - {one for one in asked if not found[one]}
 
 
+def lines_added(page: Page, path: str, numbers: str, added: str) -> Tuple[List[str], List[str]]:
+    """The blocks of a page in a file with what style sheets add to them, of which these are the characters and those of
+    numbers; and the characters of those of which not all is known, which are all where the page cannot be read as
+    browsers read it."""
+    if not lacking():
+        with contextlib.suppress(*MALFORMED):
+            generated = importlib.import_module(".generated", __package__)
+            blocks, unknown = generated.texts_with(read(path), os.path.dirname(path), page.languages, numbers)
+            return lines_of("\n".join(blocks)), lines_of("\n".join(unknown))
+    return [], [" ".join([*page.blocks, added])]
+
+
 def matching_of(page: Page, path: str) -> Optional[Matching]:
     """Tells which selectors may be about an element of a page in a file; nothing where scripts run, which may change
     its elements."""
-    return None if "scripts" in page.writers else functools.partial(_matching, page, path)
+    return None if "scripts" in page.writers else functools.partial(matched, page, path)

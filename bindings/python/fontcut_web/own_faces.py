@@ -71,6 +71,13 @@ def _loaded(address: str, sheet: str, folder: str, fonts: Sequence[str]) -> Opti
     return called[0] if len(called) == 1 else None
 
 
+def called(file: str, faces: Iterable[Placed], folder: str, files: Iterable[str]) -> List[str]:
+    """The families by which style sheets of a site in a folder load the font in one of these files."""
+    own, fonts = _plain_path(file), sorted(set(map(_plain_path, files)))
+    return list(dict.fromkeys(face.family for sheet, face in faces if face.family and own in (
+        _loaded(address, sheet, folder, fonts) for address in face.addresses)))
+
+
 def told(file: str, family: str, faces: Iterable[Placed], folder: str, files: Iterable[str]) -> Iterator[str]:
     """What is said of the font in one of the files of a site in a folder, of this family, which style sheets of the
     site load by such rules."""

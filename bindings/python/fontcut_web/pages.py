@@ -25,6 +25,15 @@ _WRITTEN = "", "text", "search", "email", "url", "tel", "password", "number", "d
 _EDITED = "", "true", "plaintext-only"
 # What stands between words, beside the ends of lines.
 _CONTROLS = re.compile("[\0-\x09\x0b-\x20\x7f-\x9f]+")
+# What Chromium and Firefox write in English in fields and on buttons that say nothing else, by their types.
+_LABELS = {"submit": ["Submit", "Submit Query"], "reset": ["Reset"], "image": ["Submit", "Submit Query"],
+           "file": ["Choose File", "Choose Files", "No file chosen", "Browse\u2026", "No file selected.",
+                    "No files selected."],
+           "date": ["mm/dd/yyyy"], "time": ["--:-- --", "AM", "PM"],
+           "datetime-local": ["mm/dd/yyyy, --:-- --", "AM", "PM"],
+           "month": ["--------- ----"], "week": ["Week --, ----"]}
+_NAMED_BY = {"submit": "value", "reset": "value", "image": "alt"}
+_SUMMARY = "Details"
 # The mark that a browser draws for each character of a password.
 _HIDDEN = "\u2022"
 _CHARSET = re.compile(rb"<meta[^>]+charset\s*=\s*[\"']?\s*([\w.:-]+)", re.I)
@@ -45,6 +54,12 @@ def is_drawn(name: str, tag: str, kind: str, is_listed: bool) -> bool:
     return name in ("alt", "placeholder") or name == "label" and tag in ("option", "optgroup")
 
 
+def labels_of(tag: str, given: Mapping[str, str]) -> List[str]:
+    """What browsers write by themselves in a field or on a button with these attributes."""
+    kind = given.get("type", "").strip().lower()
+    return _LABELS.get(kind, []) if tag == "input" and _NAMED_BY.get(kind, "") not in given else []
+
+
 def is_field(tag: str, given: Mapping[str, str]) -> bool:
     """Whether readers write to an element with these attributes."""
     is_input = tag == "input" and given.get("type", "").lower() in _WRITTEN
@@ -62,7 +77,8 @@ class Page(NamedTuple):
     browsers add to elements, as numbers of lists; the languages that it names; its style sheets, and the addresses of
     others; `rtl` if a part goes from right to left, and `override` if one does whatever its letters are; which scripts
     and fields it has that write other text; the values of attributes, by their names; its elements, each with the place
-    of the one in which it stands, before it; and whether browsers put quotation marks around some."""
+    of the one in which it stands, before it; whether browsers put quotation marks around some; what they write by
+    themselves, in their own language, in fields and on buttons; and words that stand alone between tags."""
 
     text: str
     blocks: List[str]
@@ -75,6 +91,8 @@ class Page(NamedTuple):
     attributes: Mapping[str, Sequence[str]]
     elements: List[Placed]
     has_quotes: bool
+    labels: List[str]
+    words: List[str]
 
 
 class _Reader(HTMLParser):
@@ -86,7 +104,10 @@ class _Reader(HTMLParser):
         self.silent: Optional[str] = None
         self.is_listing = False
         self.running: List[str] = []
-        self.found: Dict[str, List[str]] = {"languages": [], "styles": [], "links": [], "writers": [], "made": []}
+        self.found: Dict[str, List[str]] = {"languages": [], "styles": [], "links": [], "writers": [], "made": [],
+                                            "labels": []}
+        # Whether each of the elements `details` that are open has a summary.
+        self.details: List[bool] = []
         self.directions: Set[str] = set()
         self.elements = Elements()
         self.attributes: Dict[str, Dict[str, None]] = {}
@@ -111,6 +132,10 @@ class _Reader(HTMLParser):
     def _find(self, tag: str, given: Mapping[str, str]) -> None:
         """Collects what a tag says of how text is shaped."""
         found = self.found
+        found["labels"] += labels_of(tag, given)
+        self.details += [False] if tag == "details" else []
+        if tag == "summary" and self.details:
+            self.details[-1] = True
         found["languages"] += [given[name].strip() for name in ("lang", "xml:lang") if given.get(name, "").strip()]
         if tag == "link" and "stylesheet" in given.get("rel", "").lower().split() and "href" in given:
             found["links"].append(given["href"])
@@ -135,6 +160,8 @@ class _Reader(HTMLParser):
             self.clear_cdata_mode()
         if tag == "datalist":
             self.is_listing = False
+        if tag == "details" and self.details and not self.details.pop():
+            self.found["labels"].append(_SUMMARY)
         if tag == self.silent:
             self.silent = None
 
@@ -147,12 +174,14 @@ class _Reader(HTMLParser):
 
     def page(self) -> Page:
         """What was read."""
+        self.found["labels"] += [] if all(self.details) else [_SUMMARY]
         found = {name: list(dict.fromkeys(values)) for name, values in self.found.items()}
         elements = list(self.elements.found)
         return Page("".join(self.texts), lines_of("".join(self.running)), list(filter(None, found["made"])),
                     found["languages"], found["styles"], found["links"], self.directions, found["writers"],
                     {name: list(values) for name, values in self.attributes.items()}, elements,
-                    any(element.tag == "q" for _, element in elements))
+                    any(element.tag == "q" for _, element in elements), found["labels"],
+                    list(dict.fromkeys(text.strip() for text in self.texts if len(text.split()) == 1)))
 
 
 def decoded(data: bytes) -> str:

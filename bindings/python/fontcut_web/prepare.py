@@ -14,6 +14,7 @@ from fontcut_output import print_line, read, write
 
 from . import characters, preparing, shaping
 from .common import KINDS, Refused, UsageError, codes_in
+from .feature_tags import check_spelling
 from .inputs import accepted, file_in, mapped, read_pages, sha256
 from .preparing import Limit, Prepared, PrepareOptions
 from .replaced import check_unpacked, is_same
@@ -231,6 +232,8 @@ def run(given: argparse.Namespace) -> None:
     limits = preparing.limits_of(given.instance) if given.instance else {}
     features = preparing.features_of(given.features)
     font = accepted(given.font)
+    asked = set(features or []) - set(preparing.default_features())
+    check_spelling(given.font, preparing.lacking_features(font.data, asked))
     wanted = _wanted(given, font)
     how = PrepareOptions(wanted.codes, features, not given.no_hinting, limits, given.names, given.kern)
     one = made_of(given.font, font, wanted, how)

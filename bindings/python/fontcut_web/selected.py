@@ -23,7 +23,7 @@ def _without(found: Match[str]) -> str:
     return "*" if not before or before[-1] in " >+~," else ""
 
 
-def _widened(prelude: str) -> str:
+def widened(prelude: str) -> str:
     """Selectors without parts and states of elements; an empty text where others ask for these."""
     outside = _PARENTHESES.sub("", _PARENTHESES.sub("", prelude))
     is_asked = len(_PARTS.findall(outside)) < len(_PARTS.findall(prelude))
@@ -42,7 +42,7 @@ class Selected:
         found: Dict[Selectors, List[Any]] = {one: [] for one in every}
         matcher, others = cssselect2.Matcher(), []
         for one in found:
-            selectors = known_selectors(_widened(one.prelude), self.is_exact and one.is_whole)
+            selectors = known_selectors(widened(one.prelude), self.is_exact and one.is_whole)
             for selector in selectors:
                 matcher.add_selector(selector, one)
             others += [] if selectors else [one]

@@ -28,6 +28,8 @@ _NO_LIGATURES = "-liga", "-clig"
 MOST_WAYS = 2048
 # At so many places of axes at most.
 _MOST_PLACES = 128
+# The characters of so many blocks of which not all is known are told apart.
+_MOST_OPEN = 32
 # Scripts of characters that are of any.
 _COMMON = "Zyyy", "Zinh", "Zzzz"
 
@@ -214,6 +216,14 @@ def _manner(lists: Mapping[bool, Sequence[Setting]]) -> str:
     return sha256(repr({key: sorted(settings) for key, settings in lists.items()}).encode("utf-8", "replace"))
 
 
+def _closed(font: fontcut.Font, page: Shown, kind: str) -> Set[int]:
+    """The glyphs that may be drawn in blocks of a page of which not all is known: all that their characters lead to."""
+    every = {frozenset(mapped(font, letters_of(page._replace(text=text)))) for text in page.open}
+    widest = [one for one in every if not any(one < other for other in every)]
+    widest = widest if len(widest) <= _MOST_OPEN else [frozenset().union(*widest)]
+    return {glyph for one in widest for glyph in fontcut.closure(font, sorted(one), kind=kind)}
+
+
 class Exact(NamedTuple):
     """An exact cut, its characters, and how many glyphs its pages take."""
 
@@ -235,6 +245,6 @@ def exact_cut(path: str, font: fontcut.Font, listed: Sequence[Shown], kind: str,
             raise Refused(f"{page.path}: there are more than {MOST_WAYS} ways in which its text may be shaped: without "
                           "--shaped a cut has all glyphs of its characters")
     known = {} if known is None else known
-    glyphs = set().union(*(_taken_of(path, page, ways, said, known) for page in listed))
+    glyphs = set().union(*(_taken_of(path, page, ways, said, known) | _closed(font, page, kind) for page in listed))
     kept = mapped(font, set(others).union(*map(letters_of, listed)))
     return Exact(fontcut.cut(font, kept, kind=kind, gids=sorted(glyphs), layout_closure=False), kept, len(glyphs))

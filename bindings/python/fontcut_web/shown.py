@@ -1,35 +1,43 @@
 """What a page shows, as far as its text and its style sheets tell."""
 from __future__ import annotations
 
+import re
 import unicodedata
-from typing import Dict, Iterator, List, NamedTuple, Sequence, Set
+from typing import Dict, Iterator, List, NamedTuple, Optional, Sequence, Set, Tuple
 
 import fontcut
 
 from . import own_faces
 from .feature_sets import MOST, feature_sets
-from .matching import matching_of
+from .matching import lines_added, matching_of
 from .pages import Page, lines_of, shown
 from .rules import Selectors, Subject
 from .styles import Added, Features, Source, Styles, cased, features_in, quotes_of, sheets_of, styles_of
 
+# What makes an element a part of a line, which may be none otherwise.
+_IN_LINES = re.compile(r"(?<![\w-])display\s*:\s*(?:inline\s*(?:flow\s*)?(?:[;}!]|$)|contents|var\()", re.I)
 # A letter of Hebrew, which composes with nothing that is before it.
 _TURNED = "\u05d0"
 # Numbers of lists have figures of one width (HTML, Rendering, Lists).
 _NUMBERS: Features = (("tnum", 1),)
 # What can be done about style sheets that are not understood.
 BY_FEATURES = ": name its features by --features"
-# What is said of a page whose scripts may write text, of a style sheet that is not there, and of a page to which
-# readers write.
+# What is said of a page whose scripts may write text, of a style sheet that is not there, of buttons and fields that
+# say nothing, of text of style sheets that is not known, and of a page to which readers write.
 SCRIPTS = "it runs scripts, and text that they write may vanish"
 LOST = "is no file beside it"
+LABELS = ("browsers write in fields and on buttons in their own language, of which English is known: value, alt and "
+          "summary say what they show")
+OPEN = ("text that style sheets add is not all known before it is drawn, as numbers: letters in lines with it have all "
+        "their forms")
 FIELDS = "it has fields, and text that readers write in this font may vanish"
 
 
 class Shown(NamedTuple):
     """What a page shows, as far as it can be known, and what cannot: blocks of text, the languages that it is shown in,
     directions, the sets of features that its runs of text have, all features that its style sheets turn on, whether
-    readers write to it, and lines that say the rest."""
+    readers write to it, lines that say the rest, and the characters of blocks of which not all is known, as numbers in
+    them."""
 
     path: str
     text: str
@@ -40,22 +48,42 @@ class Shown(NamedTuple):
     turned_on: Set[str]
     has_fields: bool
     unknown: List[str]
+    open: List[str]
 
 
 class Read(NamedTuple):
-    """What the style sheets of a page say of its elements, the addresses of those that are no files beside it, and the
-    rules by which they load fonts."""
+    """What the style sheets of a page say of its elements, the addresses of those that are no files beside it, the
+    rules by which they load fonts, and the blocks to which they add text, with those of which not all is known."""
 
     styles: Styles
     lost: List[str]
     faces: List[own_faces.Placed]
+    added: Tuple[List[str], List[str]]
 
 
 def read_styles(page: Page, path: str) -> Read:
     """Reads the style sheets of a page in a file."""
     sheets, lost = sheets_of(page, path)
-    return Read(styles_of(sheets, page.attributes.get("style", ()), page.languages, matching_of(page, path)), lost,
-                own_faces.faces_of(sheets))
+    styles = styles_of(sheets, page.attributes.get("style", ()), page.languages, matching_of(page, path))
+    letters = "".join(dict.fromkeys("".join(one.text for one in _added(page, styles))))
+    texts = [*(sheet.text for sheet in sheets), *page.attributes.get("style", ())]
+    is_asked = _has_added(page, styles) or any(map(_IN_LINES.search, texts)) or any(
+        "-" in element.tag for _, element in page.elements)
+    lines = lines_added(page, path, numbers_of(page, styles), letters) if is_asked else ([], [])
+    return Read(styles, lost, own_faces.faces_of(sheets), lines)
+
+
+def _has_added(page: Page, styles: Styles) -> bool:
+    """Whether style sheets or browsers add text to lines of a page."""
+    names = {one.source.name for one in [*styles.texts, *styles.attributes]}
+    return page.has_quotes or "content" in names or styles.is_inside
+
+
+def numbers_of(page: Page, styles: Styles) -> str:
+    """The characters of numbers and marks that browsers may write in lines of a page."""
+    lists = (one.text for one in styles.texts
+             if one.source.name.startswith("list-style") or one.source.selectors.prelude.startswith("@counter-style"))
+    return "".join(dict.fromkeys("".join([*page.made, *lists])))
 
 
 class Additions(NamedTuple):
@@ -73,6 +101,7 @@ def _elements(*tags: str) -> Source:
 
 def _added(page: Page, styles: Styles) -> List[Added]:
     made = [Added(text, _elements("ol", "li", "input")) for text in page.made]
+    made += [Added(text, _elements("input", "details")) for text in page.labels]
     quotes = [Added(quotes_of(page.languages), _elements("q"))] if page.has_quotes else []
     values = [Added(value, one.source) for one in styles.attributes for value in page.attributes.get(one.text, ())]
     return [*made, *styles.texts, *quotes, *values]
@@ -83,13 +112,15 @@ def added_to(page: Page, read: Read) -> Additions:
     return Additions(_added(page, read.styles), read.styles.cases)
 
 
-def shown_by(page: Page, path: str, read: Read, more: Sequence[Features] = (), text: str = "", is_all: bool = False
-             ) -> Shown:
+def shown_by(page: Page, path: str, read: Read, more: Sequence[Features] = (), text: str = "",
+             drawn: Optional[Sequence[str]] = None) -> Shown:
     """What a page in a file shows, with its style sheets, with more sets of features, and with more text. The text of
-    one that has all has what browsers add."""
-    styles, lost, _ = read
-    added = [] if is_all else [one.text for one in _added(page, styles)]
-    blocks = [*page.blocks, *lines_of("\n".join([*added, text]))]
+    one that is drawn in part has what browsers add, with these blocks of which not all is known."""
+    styles, lost, _, (within, unknown) = read
+    added = [one.text for one in _added(page, styles)] if drawn is None else []
+    blocks = [*page.blocks, *(within if drawn is None else ()), *lines_of("\n".join([*added, text]))]
+    every = list(unknown if drawn is None else drawn)
+    every += [other for case in styles.cases for block in every for other in cased(block, case, page.languages)]
     blocks += [other for case in styles.cases for block in blocks for other in cased(block, case, page.languages)]
     more = [*more, *([_NUMBERS] if _has_numbers(page, styles) else [])]
     sets = _with_more(feature_sets(page.elements, styles.rules, "scripts" in page.writers), more)
@@ -97,7 +128,7 @@ def shown_by(page: Page, path: str, read: Read, more: Sequence[Features] = (), t
     whole = "\0".join([page.text, text, *added, *blocks])
     return Shown(path, whole, list(dict.fromkeys(blocks)), ["", *page.languages], _directions(page, styles, blocks),
                  sets[:MOST], _turned_on(page, styles, more), "fields" in page.writers,
-                 list(_unknown(page, path, styles, lost, len(sets) > MOST)))
+                 list(_unknown(page, path, styles, lost, len(sets) > MOST)), every)
 
 
 def _has_numbers(page: Page, styles: Styles) -> bool:

@@ -4,14 +4,16 @@ from __future__ import annotations
 import argparse
 import os
 import sys
-from typing import List, Mapping, Sequence, Set, Tuple
+from typing import List, Mapping, NamedTuple, Sequence, Set, Tuple
 
 import fontcut
 from fontcut_output import Progress, print_line
 
 from . import own_faces, preparing, site_example
 from .common import Refused, UsageError, need
+from .drawn import Differs
 from .faces import face_of
+from .feature_tags import check_spelling
 from .icons import is_of_icons
 from .inputs import accepted, mapped
 from .sets import codes_of
@@ -22,6 +24,7 @@ from .site_report import REPORT, Made, check_faces, is_ours, lines, report, shee
 from .site_settings import FILE, Settings, named, settings_of
 from .site_state import NOTHING, FontState, Place, State, bytes_at, put_text
 from .site_text import SiteFont, views
+from .site_told import Lacked, lacking_of
 from .site_told import told as told_of
 from .site_written import written_by
 
@@ -45,6 +48,7 @@ def _lacking_features(font: SiteFont) -> List[str]:
     """What is said of features that the settings of a font name and the font does not have."""
     named = set(preparing.features_of(font.settings.features) or []) - set(preparing.default_features())
     lacking = preparing.lacking_features(font.whole.data, named)
+    check_spelling(font.settings.file, lacking)
     return [f"{font.settings.file} has no feature {', '.join(lacking)}"] if lacking else []
 
 
@@ -60,8 +64,16 @@ def _shown_in(run: Run, font: SiteFont, pages: Sequence[SitePage], empty: Set[st
     return its
 
 
-def _bases(run: Run, settings: Settings, pages: Sequence[SitePage], before: State) -> List[Tuple[Base, List[SitePage]]]:
-    """The fonts that are prepared, each with its pages, which have characters of it."""
+class Found(NamedTuple):
+    """The fonts that are prepared, each with its pages, which have characters of it; and by the names of pages, letters
+    that no font of their element has."""
+
+    bases: List[Tuple[Base, List[SitePage]]]
+    lacked: Lacked
+
+
+def _bases(run: Run, settings: Settings, pages: Sequence[SitePage], before: State) -> Found:
+    """The fonts that are prepared."""
     names, languages = [page.name for page in pages], languages_of(settings, pages)
     fonts = [SiteFont(font, name, accepted(font.file), named(settings, os.path.basename(font.file), font.pages, names))
              for font, name in zip(settings.fonts, _names(settings))]
@@ -69,6 +81,7 @@ def _bases(run: Run, settings: Settings, pages: Sequence[SitePage], before: Stat
     run.said.extend(seen.said)
     every, empty = [], {page.name for page in pages if page.is_empty}  # type: List[Wished], Set[str]
     for number, (font, shown) in enumerate(zip(fonts, seen.pages), 1):
+        family = font.settings.family or face_of(font.whole.data, font.name).family
         run.said.extend(_lacking_features(font))
         its = _shown_in(run, font, shown, empty)
         wishes = wished(font.settings, font.name, font.whole, its, languages, before)
@@ -76,14 +89,15 @@ def _bases(run: Run, settings: Settings, pages: Sequence[SitePage], before: Stat
                 page.name in empty or mapped(font.whole, page.letters)) for page in pages):
             raise Refused(f"{font.settings.file}: it maps no character of its pages")
         if not wishes:
-            run.said.append(f"font {number}, {font.settings.file}: no page draws text in it: nothing is made of it")
+            run.said.append(f"font {number}, {font.settings.file}: no page draws text in it: nothing is made of it"
+                            f"{seen.near_to(family)}")
         run.said.extend(f"font {number}, {font.settings.file}: {line}" for line in own_faces.told(
-            font.settings.file, font.settings.family or face_of(font.whole.data, font.name).family,
+            font.settings.file, family,
             {face for page in pages if page.name in font.pages for face in page.read.faces}, settings.folder,
             [one.file for one in settings.fonts]))
         every += wishes
-    return [(base, [page for page in one.pages if mapped(base.font, page.letters)])
-            for one, base in zip(every, bases(run, every))]
+    return Found([(base, [page for page in one.pages if mapped(base.font, page.letters)])
+                  for one, base in zip(every, bases(run, every))], seen.lacked)
 
 
 def _made(run: Run, base: Base, state: FontState) -> List[Made]:
@@ -118,8 +132,13 @@ def _run(run: Run, settings: Settings, before: State) -> Tuple[str, List[str]]:
     """Makes what has changed. The report, and what is said at the end."""
     pages = pages_of(settings)
     modes = modes_of(settings, pages)
-    found = _bases(run, settings, pages, before)
+    found, lacked = _bases(run, settings, pages, before)
     check_faces((page.section, base.face, base.settings.file) for base, its in found for page in its)
+    run.said.extend(told_of(settings, modes, found, pages))
+    lacking = list(lacking_of(settings, found, pages, lacked))
+    if run.is_strict and lacking:
+        raise Refused("\n".join(lacking))
+    run.said.extend(lacking)
     states, checked = sections(run, found, modes)
     every = [one for (base, _), state in zip(found, states) for one in _made(run, base, state)]
     texts = sheets(every, settings.display)
@@ -127,7 +146,6 @@ def _run(run: Run, settings: Settings, before: State) -> Tuple[str, List[str]]:
     fonts = {base.key: state for (base, _), state in zip(found, states)}
     told = report(settings, pages, every)
     changed = _write(run.place, texts, told, State(programs(), fonts, [*texts, REPORT]))
-    run.said.extend(told_of(settings, modes, found, pages))
     count = sum(one.is_new for one in every)
     return told, [*checked, f"made anew: {count} of {len(every)} fonts, {changed} of {len(texts)} style sheets"]
 
@@ -145,18 +163,26 @@ def _settings(folder: str) -> Settings:
     return settings_of(folder)
 
 
+def _say(lines: Sequence[str]) -> None:
+    for line in lines:
+        print(f"fontcut-web: {line}", file=sys.stderr)
+
+
 def run(given: argparse.Namespace) -> None:
     """Makes the fonts of a site."""
     need("fontTools", "brotli", "tomli")
     settings = _settings(given.folder)
     place, said = Place(settings.output, settings.work), []  # type: Place, List[str]
-    with place.locked(), Progress("fontcut-web") as progress:
+    with place.locked(), Progress("fontcut-web", given.quiet) as progress:
         before = NOTHING if given.anew else place.state()
         if before.programs and before.programs != programs():
             said.append("all fonts are made anew: a program has another version")
             before = NOTHING
-        told, last = _run(Run(place, said, given.check, given.whole, progress), settings, before)
-    for line in [*said, *(last[:-1] if given.json else [])]:
-        print(f"fontcut-web: {line}", file=sys.stderr)
-    for line in [told.rstrip()] if given.json else [*lines(told), *last]:
+        try:
+            told, last = _run(Run(place, said, given.check, given.whole, given.strict, progress), settings, before)
+        except Differs:
+            _say(() if given.quiet else said)
+            raise
+    _say(() if given.quiet else [*said, *(last[:-1] if given.json else [])])
+    for line in [told.rstrip()] if given.json else [] if given.quiet else [*lines(told), *last]:
         print_line(line)

@@ -8,13 +8,14 @@ import json
 import os
 import re
 import subprocess
-from typing import Dict, Iterable, Iterator, List, Sequence
+from typing import Dict, Iterable, Iterator, List, Sequence, Tuple
 
 import fontcut
 
 from .common import Refused, UsageError
 from .faces import Face, face_of
 from .inputs import accepted, read_pages
+from .own_faces import Placed, called, faces_of
 from .site_report import REPORT
 from .site_settings import FILE, WORK, Settings, page_names
 from .styles import sheets_of
@@ -26,13 +27,18 @@ _STYLES = "Regular", "Book", "Bold"
 _MOST_FONTS = 20
 
 
-def _texts(folder: str, names: Sequence[str]) -> Iterator[str]:
-    """The texts of pages that may name families: style sheets, and styles of elements."""
+def _texts(folder: str, names: Sequence[str]) -> Tuple[List[str], List[Placed]]:
+    """The texts of pages that may name families: style sheets, and styles of elements; and the rules by which they load
+    fonts."""
+    texts: List[str] = []
+    faces: Dict[Placed, None] = {}
     for name in names:
         with contextlib.suppress(Refused, UsageError, OSError):
             page, = read_pages([os.path.join(folder, name)])
-            yield from (sheet.text for sheet in sheets_of(page, os.path.join(folder, name))[0])
-            yield from page.attributes.get("style", ())
+            sheets = sheets_of(page, os.path.join(folder, name))[0]
+            texts += [*(sheet.text for sheet in sheets), *page.attributes.get("style", ())]
+            faces.update(dict.fromkeys(faces_of(sheets)))
+    return texts, list(faces)
 
 
 def _inside(folder: str) -> List[str]:
@@ -70,12 +76,15 @@ def _faces(paths: Iterable[str]) -> Dict[Face, str]:
     return found
 
 
-def _lines_of(face: Face, path: str, styles: str) -> Iterator[str]:
-    """The lines of a font."""
-    unnamed = "" if _is_named(face.family, styles) else ", which no style sheet of a page names yet"
+def _lines_of(face: Face, path: str, styles: str, family: str) -> Iterator[str]:
+    """The lines of a font, which style sheets call by a family, if that is not its own."""
+    is_named = family or _is_named(face.family, styles)
+    unnamed = "" if is_named else ", which no style sheet of a page names yet"
     yield ""
     yield f"[[font]]  # {face.family}, {face.style}, {face.weight}{unnamed}"
     yield f"file = {json.dumps(path, ensure_ascii=False)}"
+    if family.lower() not in ("", face.family.lower()):
+        yield f"family = {json.dumps(family, ensure_ascii=False)}"
 
 
 def example(folder: str) -> Iterator[str]:
@@ -85,13 +94,16 @@ def example(folder: str) -> Iterator[str]:
         names = page_names(settings)
     except UsageError:
         names = []
-    styles = "\n".join(_texts(folder, names)).lower()
+    texts, own = _texts(folder, names)
+    styles = "\n".join(texts).lower()
     inside = {face: os.path.relpath(path, folder).replace(os.sep, "/")
               for face, path in _faces(_inside(folder)).items()}
     fonts = inside or _faces(_of_system(styles))
     yield f"# Settings to copy to {os.path.join(folder, FILE)}. Pages that are there now: {len(names)}."
     yield f"pages = {json.dumps(settings.pages)}"
+    paths = [os.path.join(folder, path) for path in fonts.values()]
     for face, path in fonts.items():
-        yield from _lines_of(face, path, styles)
+        families = called(os.path.join(folder, path), own, folder, paths)
+        yield from _lines_of(face, path, styles, families[0] if families else "")
     if not fonts:
         yield from ("", "[[font]]", 'file = "Sans.ttf"  # no font is here: write the path of one')

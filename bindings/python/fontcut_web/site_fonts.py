@@ -2,41 +2,48 @@
 from __future__ import annotations
 
 import functools
+import itertools
 import os
 from typing import Dict, List, Mapping, NamedTuple, Optional, Sequence, Set, Tuple
 
 import fontcut
-from fontcut_output import Progress
+from fontcut_output import Progress, read
 
 from . import drawn, preparing, shaped, shaping
-from .axes import kind_for
+from .axes import kind_for, unused
 from .common import SHAPED, Refused, codes_in
 from .faces import Face, face_of, varying
-from .inputs import accepted, mapped, refusing
+from .inputs import accepted, mapped, refusing, sha256
 from .prepare import Otherwise, made_of, wanted_of
 from .preparing import PrepareOptions
 from .processes import side_by_side
-from .sets import codes_of, page_range, range_words, some_words
+from .sets import codes_of, page_range, range_words, some_of, some_words
 from .shaped import Known, Said
 from .sheet import declarations
+from .site_drawn import Asked, check
 from .site_pages import CLOSED, EXACT, Modes, SitePage
 from .site_settings import FILE, FontSettings
 from .site_state import File, FontState, Place, SectionState, State, digest, digest_of
 from .site_written import letters_with, with_text, written_by
+from .styles import sheets_of
 from .woff import packed
 
+# What lets pages be that differ.
+_ACCEPTS = (f"those that are drawn alike are not drawn again, and {FILE} may name pages that are not to be drawn: "
+            "unchecked = [\"page.html\"]")
 # How many ranges of new characters are named.
 _NAMED = 8
 
 
 class Run(NamedTuple):
     """A run: its folders, what is said in it, whether pages are drawn, whether their bytes are compared with those of
-    whole fonts, and how far it is."""
+    whole fonts, whether no font may lack characters of a page, and how far it is."""
 
     place: Place
     said: List[str]
     is_drawn: bool
     is_compared: bool
+    is_strict: bool
     progress: Progress
 
 
@@ -73,11 +80,11 @@ def _features(one: FontSettings, pages: Sequence[SitePage]) -> Optional[List[str
     return None if asked is None else sorted({*asked, *turned_on})
 
 
-def _why(one: FontSettings, old: FontState, key: str, pages: Sequence[SitePage], codes: Sequence[int],
+def _why(old: FontState, keys: Sequence[str], pages: Sequence[SitePage], codes: Sequence[int],
          features: Optional[List[str]]) -> str:
     """Why a font is prepared anew, or an empty text."""
-    if old.key != key:
-        return "its file, its settings or a program has changed"
+    if old.key not in keys:
+        return "its file, its settings, the axes that pages use or a program has changed"
     lacking = sorted(set(codes) - _codes(old.codes))
     if lacking:
         new = set(map(chr, lacking))
@@ -133,8 +140,8 @@ def _prepared(one: Wished) -> Ready:
     """The font, prepared; or as it is, where it would shape text of pages otherwise then."""
     how, letters = one.settings, _letters(one.settings, one.pages)
     codes = mapped(one.whole, letters)
-    options = PrepareOptions(codes, _features(how, one.pages), how.hinting,
-                             preparing.limits_of(how.instance) if how.instance else {}, how.names, how.kern)
+    limits = preparing.limits_of(how.instance) if how.instance else dict.fromkeys(_unused(one))
+    options = PrepareOptions(codes, _features(how, one.pages), how.hinting, limits, how.names, how.kern)
     wanted = wanted_of(one.whole, codes, letters, [page.shown.blocks for page in one.pages])
     try:
         return Ready(made_of(how.file, one.whole, wanted, options).data)
@@ -153,7 +160,7 @@ def _put(run: Run, one: Wished, ready: Ready) -> FontState:
     run.said.extend([ready.why] if ready.why else [f"{os.path.basename(one.settings.file)} is prepared now, and its "
                                                    "files get new names"] if old and old.why else [])
     codes = mapped(one.whole, _letters(one.settings, one.pages))
-    return FontState(digest(one.whole.data), _key(one.settings, one.whole), prepared, range_words(codes),
+    return FontState(digest(one.whole.data), _key(one, _unused(one)), prepared, range_words(codes),
                      None if ready.why else _features(one.settings, one.pages), _known_whole(one),
                      old.sections if old and is_as_before else {}, old.shaped if old and is_as_before else {},
                      ready.why, _tried(one.pages) if ready.why else "")
@@ -180,11 +187,26 @@ def _letters(one: FontSettings, pages: Sequence[SitePage]) -> Set[str]:
     return set().union(*(page.letters | page.written.every for page in pages), written_by([one]).every)
 
 
-def _key(one: FontSettings, whole: fontcut.Font) -> str:
-    """A digest of what a prepared font is made of, beside the pages."""
-    options = {"languages": sorted(one.languages), "written": written_by([one]).digest, "features": one.features,
-               "hinting": one.hinting, "names": one.names, "kern": one.kern, "instance": one.instance}
-    return digest(whole.data, digest_of(options).encode())
+def _unused(one: Wished) -> List[str]:
+    """The axes that no page uses, which a prepared font goes without, unless its settings say which it has."""
+    how = one.settings
+    return [] if how.kind or how.instance else unused(one.whole.data, [(page.page, page.path) for page in one.pages])
+
+
+def _keys(one: Wished) -> List[str]:
+    """Digests of what a prepared font may be made of: without all axes that no page uses, or with some of these."""
+    tags = _unused(one)
+    return [_key(one, some) for count in range(len(tags), -1, -1) for some in itertools.combinations(tags, count)]
+
+
+def _key(wanted: Wished, pinned: Sequence[str]) -> str:
+    """A digest of what a prepared font is made of, beside the characters of pages: without some axes."""
+    one = wanted.settings
+    options: Dict[str, object] = {
+        "languages": sorted(one.languages), "written": written_by([one]).digest, "features": one.features,
+        "hinting": one.hinting, "names": one.names, "kern": one.kern, "instance": one.instance}
+    options.update({"pinned": list(pinned)} if pinned else {})
+    return digest(wanted.whole.data, digest_of(options).encode())
 
 
 def _kept(run: Run, one: Wished) -> Optional[FontState]:
@@ -192,13 +214,13 @@ def _kept(run: Run, one: Wished) -> Optional[FontState]:
     not prepared that is said again, unless its pages have changed."""
     if one.old is None or run.place.kept(run.place.work, one.old.prepared) is None:
         return None
-    if one.old.why and one.old.key == _key(one.settings, one.whole):
+    keys = _keys(one)
+    if one.old.why and one.old.key in keys:
         is_same = one.old.tried == _tried(one.pages)
         run.said.extend([one.old.why] if is_same else [])
         return one.old if is_same else None
     codes = mapped(one.whole, _letters(one.settings, one.pages))
-    why = _why(one.settings, one.old, _key(one.settings, one.whole), one.pages, codes,
-               _features(one.settings, one.pages))
+    why = _why(one.old, keys, one.pages, codes, _features(one.settings, one.pages))
     if why:
         its = f" for pages in {one.languages.replace('-', ', ')}" if one.languages else ""
         run.said.append(f"{os.path.basename(one.settings.file)} is prepared anew{its}, and its files get new names: "
@@ -318,6 +340,13 @@ def _made(run: Run, one: Section) -> Cut:
     return Cut(data, small, known)
 
 
+def _passed(run: Run, one: Section, modes: Modes) -> Dict[str, str]:
+    """The same after this run."""
+    if not run.is_drawn:
+        return _checked(one)
+    return {name: key for name, key in one.keys.items() if name not in modes.unchecked or name in _checked(one)}
+
+
 def _checked(one: Section) -> Dict[str, str]:
     """How each page of a section was read that was drawn by its cut as by the whole font, and is so since: what is
     joined into a cut changes nothing of other pages."""
@@ -326,9 +355,8 @@ def _checked(one: Section) -> Dict[str, str]:
     return {name: key for name, key in one.old.checked.items() if one.keys.get(name) == key}
 
 
-def _written(run: Run, one: Section, cut: Cut, known: Sequence[File]) -> SectionState:
+def _written(run: Run, one: Section, cut: Cut, known: Sequence[File], checked: Dict[str, str]) -> SectionState:
     """Writes the files of a section, and returns its state. Files of the last run are known."""
-    checked = one.keys if run.is_drawn else _checked(one)
     if one.old and cut.woff2 is None:
         return one.old._replace(pages=one.keys, checked=checked)
     file_name = f"{one.base.name}-{one.name}"
@@ -343,33 +371,38 @@ def _woff2(run: Run, one: Section, cut: Cut) -> bytes:
     return run.place.kept(run.place.output, one.old.woff2) or b""
 
 
-def _compared(run: Run, every: Sequence[Section], cuts: Sequence[Cut]) -> List[drawn.Compared]:
-    """The pages that were not drawn yet as they are now, with their fonts and cuts: all of a page by each font, or if
-    fonts have parts of it, all of these at once."""
-    asked = [(one, cut, page) for one, cut in zip(every, cuts) for page in one.pages if page.name not in _checked(one)]
-    found: List[drawn.Compared] = []
-    for one, cut, page in (row for row in asked if not row[2].is_part):
-        found.append(drawn.Drawn(page.path, one.base.whole.data, _woff2(run, one, cut), drawn.is_still(page.page),
+def _asked(run: Run, every: Sequence[Section], cuts: Sequence[Cut], name: str) -> Asked:
+    """A page of this name with its fonts and cuts: all of it by each font, or if fonts have parts of it, all of these
+    at once."""
+    its = [(one, cut, page) for one, cut in zip(every, cuts) for page in one.pages if page.name == name]
+    page = its[0][2]
+    is_still, found = drawn.is_still(page.page), []  # type: bool, List[drawn.Compared]
+    for one, cut, page in (row for row in its if not row[2].is_part and name not in _checked(row[0])):
+        found.append(drawn.Drawn(page.path, one.base.whole.data, _woff2(run, one, cut), is_still,
                                  page_range(codes_of(cut.data))))
-    for path, is_still in {page.path: drawn.is_still(page.page) for _, _, page in asked if page.is_part}.items():
-        fonts = [drawn.Family(one.base.face.family, declarations(one.base.face), one.base.whole.data,
-                              _woff2(run, one, cut), page_range(codes_of(cut.data)))
-                 for one, cut in zip(every, cuts) if any(page.path == path for page in one.pages)]
-        found.append(drawn.DrawnBy(path, fonts, is_still))
-    return found
+    if any(page.is_part and name not in _checked(one) for one, _, page in its):
+        found.append(drawn.DrawnBy(page.path, [drawn.Family(
+            one.base.face.family, declarations(one.base.face), one.base.whole.data, _woff2(run, one, cut),
+            page_range(codes_of(cut.data))) for one, cut, _ in its], is_still))
+    sheets = [sheet.text for sheet in sheets_of(page.page, page.path)[0]]
+    keys = sorted([_cuts_of(one.base), one.keys[name], *declarations(one.base.face)] for one, _, _ in its)
+    return Asked(name, found, digest_of([name, sha256(read(page.path)), sheets, keys]))
 
 
-def _check(run: Run, every: Sequence[Section], cuts: Sequence[Cut]) -> str:
+def _check(run: Run, every: Sequence[Section], cuts: Sequence[Cut], modes: Modes) -> str:
     """Draws the pages that were not drawn yet, and says which these are."""
     run.progress.say("drawing pages")
-    compared = _compared(run, every, cuts)
-    count, most = len({one.page for one in compared}), len({page.path for one in every for page in one.pages})
+    names = list(dict.fromkeys(page.name for one in every for page in one.pages))
+    left = [name for name in names if name in modes.unchecked]
+    drawn_names = [name for name in names if name not in modes.unchecked and any(
+        page.name == name and name not in _checked(one) for one in every for page in one.pages)]
+    count = check(run.place, [_asked(run, every, cuts, name) for name in drawn_names], _ACCEPTS)
+    unchecked = f"; not {some_of(left)}, by unchecked of the settings" if left else ""
     if not count:
         return (f"checked: no page, for none has changed since it was; --anew --check makes all anew and checks all "
-                f"({most})")
-    drawn.check(compared)
-    others = "; the others were before, and have not changed" if count < most else ""
-    return f"checked: {count} of {most} pages, which are drawn as by the whole fonts{others}"
+                f"({len(names)}){unchecked}")
+    others = "; the others were before, and have not changed" if count < len(names) - len(left) else ""
+    return f"checked: {count} of {len(names)} pages, which are drawn as by the whole fonts{others}{unchecked}"
 
 
 class Sections(NamedTuple):
@@ -384,12 +417,12 @@ def sections(run: Run, found: Sequence[Tuple[Base, Sequence[SitePage]]], modes: 
     every = [_section(run, base, name, [page for page in pages if page.section == name], modes)
              for base, pages in found for name in dict.fromkeys(page.section for page in pages)]
     cuts = side_by_side([functools.partial(_made, run, one) for one in every])
-    checked = [_check(run, every, cuts)] if run.is_drawn else []
+    checked = [_check(run, every, cuts, modes)] if run.is_drawn else []
     states: Dict[str, FontState] = {base.key: base.state._replace(sections={}) for base, _ in found}
     known = [one.old.woff2 for one in every if one.old]
     for one, cut in zip(every, cuts):
         state = states[one.base.key]
         for manner, parts in cut.known.items():
             state.shaped.setdefault(manner, {}).update(parts)
-        state.sections[one.name] = _written(run, one, cut, known)
+        state.sections[one.name] = _written(run, one, cut, known, _passed(run, one, modes))
     return Sections([states[base.key] for base, _ in found], checked)

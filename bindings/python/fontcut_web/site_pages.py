@@ -57,10 +57,11 @@ class SitePage(NamedTuple):
 
 
 class Modes(NamedTuple):
-    """The pages that the settings name as exact, and as closed."""
+    """The pages that the settings name as exact, as closed, and as those that are not drawn to check them."""
 
     exact: Set[str]
     closed: Set[str]
+    unchecked: Set[str]
 
     def of(self, page: SitePage, font: FontSettings) -> str:
         """Whether the cut of a font for a page is exact or closed. If nothing is named, it is exact where all text is
@@ -74,7 +75,7 @@ class Modes(NamedTuple):
 
 def _digest(shown: Shown, written: Written) -> str:
     """A digest of what the cuts of a page depend on."""
-    return digest_of([shown.text, shown.blocks, shown.languages, sorted(shown.directions), shown.features,
+    return digest_of([shown.text, shown.blocks, shown.languages, sorted(shown.directions), shown.features, shown.open,
                       written.digest])
 
 
@@ -108,7 +109,8 @@ def pages_of(settings: Settings) -> List[SitePage]:
 def modes_of(settings: Settings, pages: Sequence[SitePage]) -> Modes:
     """The pages that the settings name. Raises `UsageError` for one that is named as both."""
     names = [page.name for page in pages]
-    modes = Modes(named(settings, EXACT, settings.exact, names), named(settings, CLOSED, settings.closed, names))
+    modes = Modes(named(settings, EXACT, settings.exact, names), named(settings, CLOSED, settings.closed, names),
+                  named(settings, "unchecked", settings.unchecked, names))
     for name in sorted(modes.exact & modes.closed):
         raise UsageError(f"{settings.path}: {name} is named as exact and as closed")
     return modes

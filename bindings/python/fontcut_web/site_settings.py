@@ -63,14 +63,15 @@ class PageSettings(NamedTuple):
 
 class Settings(NamedTuple):
     """What a site is: the folder of its pages, that of its fonts and how pages address it, patterns of its pages, of
-    those whose cuts are exact or closed, and of the pages of each section; its fonts, and what is written to pages; and
-    what each font is prepared for."""
+    those whose cuts are exact or closed, of those that are not checked, and of the pages of each section; its fonts,
+    and what is written to pages; and what each font is prepared for."""
 
     folder: str
     fonts: List[FontSettings]
     pages: List[str] = ["**/*.html", "**/*.htm"]
     exact: List[str] = []
     closed: List[str] = []
+    unchecked: List[str] = []
     sections: Mapping[str, List[str]] = {}
     written: Sequence[PageSettings] = ()
     out: str = "fonts"

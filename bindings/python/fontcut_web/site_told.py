@@ -2,16 +2,17 @@
 from __future__ import annotations
 
 import os
-from typing import Dict, Iterator, List, NamedTuple, Sequence, Set, Tuple
+from typing import Dict, Iterator, List, Mapping, NamedTuple, Sequence, Set, Tuple
 
 import fontcut
 
 from . import sequences
 from .common import SHAPED
-from .sets import some_words
-from .shown import BY_FEATURES, FIELDS, LOST, SCRIPTS, added_to
+from .matching import matched
+from .sets import some_of, some_words
+from .shown import BY_FEATURES, FIELDS, LABELS, LOST, OPEN, SCRIPTS, added_to
 from .site_fonts import Base
-from .site_pages import Modes, SitePage
+from .site_pages import EXACT, Modes, SitePage
 from .site_settings import Settings
 from .site_written import written_by
 from .styles import Source, cased
@@ -24,6 +25,10 @@ _ADDED = "text that it adds is not known"
 _CLOSED_FOR_FEATURES = "its cuts are closed, for all features (exact makes smaller ones, for those that are known)"
 # How much of the selectors of a rule is said.
 _LONGEST = 80
+
+
+# By the names of pages: the names of elements, files of fonts, and letters that none of these has.
+Lacked = Mapping[str, Sequence[Tuple[str, List[str], List[int]]]]
 
 
 class _Page(NamedTuple):
@@ -45,9 +50,9 @@ def _unknown(one: _Page, modes: Modes) -> Iterator[str]:
     is_written = bool(page.written.every or written_by([base.settings for base in one.fonts]).every)
     is_closed = page.name not in modes.closed and any(base.kind in SHAPED for base in one.fonts)
     for line in page.shown.unknown if page.name not in modes.exact else ():
-        line = line.replace(BY_FEATURES, "")
+        line = line.replace(BY_FEATURES, "").replace(f"{page.shown.path}: ", f"{page.name}: ", 1)
         if line.endswith(SCRIPTS):
-            line = f"{page.shown.path}: it runs scripts"
+            line = f"{page.name}: it runs scripts"
             helps = [*([_CLOSED_FOR_TEXT] if is_closed else []), *([] if is_written else [_LETTERS])]
         else:
             helps = [*([_ADDED] if line.endswith(LOST) else []), *([_CLOSED_FOR_FEATURES] if is_closed else [])]
@@ -75,18 +80,37 @@ def _origin(settings: Settings, source: Source) -> str:
     return f"{name} {{ {source.name} }} of {os.path.relpath(source.path, settings.folder)} adds"
 
 
-def _lacking(settings: Settings, one: _Page) -> Iterator[str]:
-    """The characters that a page has and none of its fonts, with the rules that add them."""
-    page = one.page
-    codes = sorted(sequences.without_selectors({ord(letter) for letter in page.shown.text if letter.isprintable()}))
+def _lacking_codes(one: _Page) -> List[int]:
+    """The characters that a page has and none of its fonts."""
+    codes = sorted(sequences.without_selectors({ord(letter) for letter in one.page.shown.text if letter.isprintable()}))
     for base in one.fonts:
         codes = fontcut.missing(base.whole, codes)
+    return codes
+
+
+def _lacking_here(page: SitePage, lacked: Sequence[Tuple[str, List[str], List[int]]], known: Set[int]) -> Iterator[str]:
+    """The characters that elements of a page have and no font of theirs, beside those that no font has."""
+    for tag, files, codes in lacked:
+        left = [code for code in codes if code not in known]
+        if left:
+            yield (f"{page.name}: no font of <{tag}> has {some_words(left)}: by its font-family it is drawn in "
+                   f"{', '.join(files)}")
+
+
+def _lacking(settings: Settings, one: _Page, codes: Sequence[int]) -> Iterator[str]:
+    """What is said of characters that a page has and none of its fonts, with the rules that add them."""
+    page = one.page
     own = {ord(letter) for letter in f"{page.page.text}{page.written.text}"}
     texts = list(_texts(page)) if set(codes) - own else []
+    asked = list(dict.fromkeys(source.selectors for some, source in texts if not some.isdisjoint(codes)))
+    matching = matched(page.page, page.path, asked)
     origins: Dict[str, List[int]] = {}
     for code in codes:
-        source = next((source for some, source in texts if code in some), None) if code not in own else None
-        origins.setdefault(f", which {_origin(settings, source)}" if source else "", []).append(code)
+        sources = [source for some, source in texts if code in some] if code not in own else []
+        # A rule that is about no element may be one of another page, even if a script could make such an element.
+        source = next((one for one in sources if not one.path or one.selectors in matching), None)
+        if source or not sources:
+            origins.setdefault(f", which {_origin(settings, source)}" if source else "", []).append(code)
     yield from (f"{page.name}: no font of it has {some_words(some)}{origin}" for origin, some in origins.items())
 
 
@@ -98,19 +122,37 @@ def _colours(pages: Sequence[_Page]) -> Iterator[str]:
             yield f"{os.path.basename(base.settings.file)} has colours ({colours}), which cuts drop"
 
 
+def _open(modes: Modes, found: Sequence[Tuple[Base, Sequence[SitePage]]]) -> Iterator[str]:
+    """What is said of pages with text of style sheets that is not known, for which cuts are exact."""
+    names = dict.fromkeys(page.name for base, some in found for page in some
+                          if page.shown.open and base.kind in SHAPED and modes.of(page, base.settings) == EXACT)
+    if names:
+        yield f"{some_of(list(names))}: {OPEN}"
+
+
+def lacking_of(settings: Settings, found: Sequence[Tuple[Base, Sequence[SitePage]]], pages: Sequence[SitePage],
+               lacked: Lacked) -> Iterator[str]:
+    """What is said of characters of pages that no font of theirs has, or of the elements that have them."""
+    for one in _of_pages(found, pages):
+        codes = _lacking_codes(one)
+        yield from _lacking(settings, one, codes)
+        yield from _lacking_here(one.page, lacked.get(one.page.name, ()), set(codes))
+
+
 def told(settings: Settings, modes: Modes, found: Sequence[Tuple[Base, Sequence[SitePage]]], pages: Sequence[SitePage]
          ) -> Iterator[str]:
-    """What is not known of pages, and which characters no font of theirs has."""
+    """What is not known of pages, and what is drawn otherwise by cuts."""
     shown = _of_pages(found, pages)
     for one in shown:
         yield from _unknown(one, modes)
         page = one.page
         if page.shown.has_fields and not page.written.letters and not any(
                 base.settings.languages for base in one.fonts):
-            yield (f"{page.shown.path}: readers write to it, and letters that it does not show are of no font of it: "
+            yield (f"{page.name}: readers write to it, and letters that it does not show are of no font of it: "
                    "name languages of the page or of a font")
-    for one in shown:
-        yield from _lacking(settings, one)
+    labelled = [one.page.name for one in shown if one.page.page.labels]
+    yield from [f"{some_of(labelled)}: {LABELS}"] if labelled else []
+    yield from _open(modes, found)
     yield from _colours(shown)
     for one in shown:
         its_fonts = [(os.path.basename(base.settings.file), base.whole.data) for base in one.fonts]

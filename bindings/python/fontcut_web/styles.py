@@ -10,6 +10,7 @@ from urllib.parse import unquote, urlsplit
 
 from . import counters
 from .common import UsageError
+from .custom_values import Custom, custom_of, values_of
 from .pages import Page
 from .rules import ANY, COMMENT, STRING, Selectors, Subject, calm, rules_of, unescaped
 
@@ -21,7 +22,7 @@ Features = Tuple[Tuple[str, int], ...]
 _COUNTERS = "symbols", "additive-symbols", "prefix", "suffix", "negative", "pad", "system"
 _PROPERTIES = ("font-feature-settings|font-language-override|font-variant(?:-[a-z-]+)?|font|text-transform|content|"
                "quotes|text-combine(?:-upright)?|text-overflow|hyphens|hyphenate-character|line-clamp|"
-               f"list-style(?:-type)?|text-emphasis(?:-style)?|direction|unicode-bidi|writing-mode|{'|'.join(_COUNTERS)}")
+               f"list-style(?:-type|-position)?|text-emphasis(?:-style)?|direction|unicode-bidi|writing-mode|{'|'.join(_COUNTERS)}")
 _VALUE = rf"(?:{STRING}|[^;{{}}\"'])*"
 _DECLARATION = re.compile(rf"(?<![\w-])(?:-(?:webkit|moz|ms)-)?({_PROPERTIES})\s*:\s*({_VALUE})", re.I)
 _IMPORTANT = re.compile(r"!\s*important\s*$", re.I)
@@ -106,7 +107,7 @@ class Added(NamedTuple):
 class Styles(NamedTuple):
     """What style sheets say: the rules that set features, the cases that text is changed to, each with what asks for
     it first, text that is added, and attributes whose values are, the directions of text, as a page has them and `ttb`
-    for vertical lines, and what could not be read."""
+    for vertical lines, what could not be read, and whether marks of lists may stand in the lines of text."""
 
     rules: List[FeatureRule]
     cases: Dict[str, Source]
@@ -114,6 +115,7 @@ class Styles(NamedTuple):
     attributes: List[Added]
     directions: Set[str]
     unread: List[str]
+    is_inside: bool = False
 
 
 # Which of the selectors of rules may be about an element.
@@ -246,6 +248,13 @@ def declarations_of(text: str) -> Iterator[Tuple[str, str]]:
         yield name.lower(), _IMPORTANT.sub("", value)
 
 
+def _resolved(text: str, custom: Custom) -> Iterator[Tuple[str, str]]:
+    """The same, of those that add text with each value that custom properties may give them."""
+    for name, value in declarations_of(text):
+        is_set = "var(" in value.lower() and not name.startswith("font")
+        yield from ((name, one) for one in (values_of(value, custom) if is_set else [value]))
+
+
 def _once(items: Iterable[Item]) -> List[Item]:
     """Items in their order, each once."""
     return list(dict.fromkeys(items))
@@ -263,9 +272,12 @@ class _Block(NamedTuple):
 def _blocks(sheets: Sequence[StyleSheet], inline: Sequence[str], matching: Optional[Matching]) -> List[_Block]:
     """The rules of style sheets that may be about an element, and the declarations of single elements. A counter style
     that none of these names counts nothing, if no script does."""
-    rules = [_Block(rule.selectors, sheet.path, list(declarations_of("; ".join(rule.declarations))))
-             for sheet in sheets for rule in rules_of(sheet.text)]
-    every = [_Block(ANY, None, list(declarations_of(calm(declarations)))) for declarations in inline]
+    read = [(sheet.path, rule.selectors, "; ".join(rule.declarations))
+            for sheet in sheets for rule in rules_of(sheet.text)]
+    own = list(map(calm, inline))
+    custom = custom_of([*((selectors.prelude, text) for _, selectors, text in read), *(("", text) for text in own)])
+    rules = [_Block(selectors, path, list(_resolved(text, custom))) for path, selectors, text in read]
+    every = [_Block(ANY, None, list(_resolved(text, custom))) for text in own]
     if matching is None:
         return [*rules, *every]
     known = matching(_once(block.selectors for block in rules if block.declarations))
@@ -279,7 +291,7 @@ def styles_of(sheets: Sequence[StyleSheet], inline: Sequence[str], languages: Se
               matching: Optional[Matching] = None) -> Styles:
     """What style sheets say, and declarations of single elements, for a page in these languages: all rules, or those
     alone whose selectors may be about an element of it."""
-    found = Styles([], {}, [], [], set(), [])
+    found, is_inside = Styles([], {}, [], [], set(), []), False
     for block in _blocks(sheets, inline, matching):
         features: Dict[str, Features] = {}
         for name, value in block.declarations:
@@ -289,11 +301,13 @@ def styles_of(sheets: Sequence[StyleSheet], inline: Sequence[str], languages: Se
             found.attributes.extend(Added(one, source) for one in _attributes(name, value))
             found.directions.update(_directions(name, value))
             found.unread.extend(_unread(name, value))
+            is_inside = is_inside or name.startswith("list-style") and "inside" in value.lower()
             for case in sorted(_cases(name, value)):
                 found.cases.setdefault(case, source)
         if features and block.path is not None:
             found.rules.append(FeatureRule(block.selectors.subjects, features))
-    return found._replace(texts=_once(found.texts), attributes=_once(found.attributes), unread=_once(found.unread))
+    return found._replace(texts=_once(found.texts), attributes=_once(found.attributes), unread=_once(found.unread),
+                          is_inside=is_inside)
 
 
 def parts_of(address: str) -> Tuple[str, str]:

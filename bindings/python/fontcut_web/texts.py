@@ -13,10 +13,11 @@ from fontcut_output import Progress, print_line, write
 
 from . import losses, pages, sequences, styles
 from .common import SHAPED, Missing, Refused, UsageError, need, part
-from .inputs import accepted, as_file, mapped, read_pages, refusing
+from .feature_tags import misspelt
+from .inputs import accepted, as_file, dropped_tables, mapped, read_pages, refusing
 from .replaced import check_font, check_name, check_written, is_same
 from .sets import Slice, page_range, range_words, some_words
-from .shown import Shown, letters_of, read_styles, shown_by
+from .shown import LABELS, OPEN, Shown, letters_of, read_styles, shown_by
 
 # What is said of an option without a character, as where a variable of a shell is empty.
 NO_TEXT = "--text is empty: it names no character"
@@ -42,7 +43,7 @@ def _fitted(given: argparse.Namespace, font: fontcut.Font, shown: Sequence[Shown
     """The font, prepared for pages. Raises `Refused` where that cannot be."""
     codes = mapped(font, set().union(*map(letters_of, shown)))
     features: Set[str] = set().union(*(page.turned_on for page in shown))
-    prepared: fontcut.Font = part("fitted").fitted(font, codes, given.kind, features)
+    prepared: fontcut.Font = part("fitted").fitted(font, codes, given.kind, features, given.unused)
     return prepared
 
 
@@ -77,6 +78,7 @@ def _exact(given: argparse.Namespace, font: fontcut.Font, source: str, shown: Se
     with as_file(source, font) as path, Progress("fontcut-web", given.quiet) as progress:
         exact = shaped.exact_cut(path, font, shown, given.kind, shaped.Said(progress, os.path.basename(source)))
     unknown = [line for page in shown for line in page.unknown]
+    unknown += [f"{page.path}: {OPEN}" for page in shown if page.open]
     return Cut(exact.data, exact.codes, {"glyphs": exact.glyphs, "unknown": unknown}, unknown)
 
 
@@ -116,7 +118,9 @@ def _unknown_features(given: argparse.Namespace, source: str, font: fontcut.Font
     """What is said of features that `--features` turns on and the font does not have."""
     tags = {tag for one in styles.features_of(given.features or []) for tag, value in one if value}
     lacking = part("preparing").lacking_features(font.data, tags) if tags else []
-    return [f"{source} has no feature {', '.join(lacking)}"] if lacking else []
+    near = misspelt(lacking)
+    return [f"{source} has no feature {', '.join(lacking)}{': did you mean ' if near else ''}"
+            f"{', '.join(near.values())}{'?' if near else ''}"] if lacking else []
 
 
 def _dropped(given: argparse.Namespace, source: str, font: fontcut.Font, cut: Cut, shown: Sequence[Shown]) -> List[str]:
@@ -131,18 +135,28 @@ def _dropped(given: argparse.Namespace, source: str, font: fontcut.Font, cut: Cu
     return lines
 
 
+def _unmade(font: fontcut.Font, words: Sequence[str]) -> List[str]:
+    """What is said of words of a page that name no icon of a font of icons, where fontTools is there to know these."""
+    with contextlib.suppress(Missing):
+        icons = part("icons")
+        if icons.may_have_icons(font) and icons.is_of_icons(font):
+            found: List[str] = icons.unmade(font, words, is_of_text=True)
+            return found
+    return []
+
+
 def _sheet_beside(out: str) -> str:
     """The path of the style sheet beside OUT."""
     return f"{os.path.splitext(out)[0]}.css"
 
 
-def _write_sheet(given: argparse.Namespace, font: fontcut.Font, source: str, codes: List[int]) -> Dict[str, object]:
+def _write_sheet(given: argparse.Namespace, font: fontcut.Font, source: str, cut: Cut) -> Dict[str, object]:
     """Writes a style sheet beside OUT that gives the cut the font's family. Returns what `--json` reports of it."""
     out: str = given.files[-1]
     faces, sheet = part("faces"), part("sheet")
     face = faces.face_of(font.data, os.path.splitext(os.path.basename(source))[0])
-    face = faces.varying(font.data, face) if given.kind == "variable" else face
-    placed = sheet.Placed(Slice(os.path.basename(out), codes), os.path.basename(out))
+    face = faces.varying(cut.data, face) if given.kind == "variable" else face
+    placed = sheet.Placed(Slice(os.path.basename(out), cut.codes), os.path.basename(out))
     styled = [sheet.Styled(face, face, [placed])]
     path = _sheet_beside(out)
     write(path, sheet.style_sheet(styled, given.display, "text").encode())
@@ -228,12 +242,16 @@ def run(given: argparse.Namespace) -> None:
     *paths, source, out = given.files
     _needed(given)
     read = read_pages(paths, ": pages come first")
-    font = accepted(source)
+    drop, font = dropped_tables(given.drop or [], given.kind), accepted(source)
     if not given.force:
         check_font(source, font, out)
         if given.css:
             check_written([_sheet_beside(out)])
+    if drop:
+        with refusing(source):
+            font = fontcut.Font(part("woff").without(font.data, drop))
     given.named = given.kind
+    given.unused = [] if given.kind else part("axes").unused(font.data, zip(read, paths))
     given.kind = given.kind or part("axes").kind_for(font.data, zip(read, paths))
     more = styles.features_of(given.features or [])
     shown = [shown_by(page, path, read_styles(page, path), more, given.text or "") for page, path in zip(read, paths)]
@@ -241,12 +259,15 @@ def run(given: argparse.Namespace) -> None:
     cut = _made(given, font, source, shown)
     with refusing(source):
         data = part("woff").packed(cut.data) if out.lower().endswith(".woff2") else cut.data
-    notices = _dropped(given, source, font, cut, shown)
+    notices = [*_dropped(given, source, font, cut, shown),
+               *(f"{path}: {LABELS}" for page, path in zip(read, paths) if page.labels),
+               *(f"{path}: {source} has {line}" for page, path in zip(read, paths)
+                 for line in _unmade(font, page.words))]
     if given.check:
         drawn = part("drawn")
         ranges = page_range(cut.codes) if given.css else ""
         every = [drawn.Drawn(path, font.data, data, drawn.is_still(page), ranges) for path, page in zip(paths, read)]
         _check_drawn(given, every, [*cut.warnings, *notices])
     write(out, data)
-    sheet = _write_sheet(given, font, source, cut.codes) if given.css else {}
+    sheet = _write_sheet(given, font, source, cut) if given.css else {}
     _report(given, len(data), cut, lacking, notices, sheet)

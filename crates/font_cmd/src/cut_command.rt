@@ -146,9 +146,9 @@ fn cut_and_report<'a, F: HeldFiles, I, O: Write + Copy + Drop>(
     font: &Font<'_>,
     wanted: &WantedCodes,
     chosen: &Chosen,
-    coverage: Coverage,
+    mut coverage: Coverage,
 ) -> Result<Outcome, CommandError<'a>> {
-    let mut text = notes_of(system, line, chosen)?;
+    coverage.begin_with(notes_of(system, line, chosen)?)?;
     let linked = reported_links(
         system.alloc,
         kind,
@@ -158,8 +158,7 @@ fn cut_and_report<'a, F: HeldFiles, I, O: Write + Copy + Drop>(
         &chosen.numbers,
     )?;
     let size = send_cut(system, kind, line, font, wanted, &chosen.numbers)?;
-    let report = coverage.with_cut(kind, linked, size)?;
-    text.push_str(report.as_str())?;
+    let text = coverage.with_cut(kind, linked, size)?;
     Ok(Outcome::saying(true, text))
 }
 

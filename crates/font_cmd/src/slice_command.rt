@@ -80,12 +80,17 @@ fn write_slice<'a, F: HeldFiles, I, O: Write + Copy + Drop>(
     }
 }
 
+// How many slices are named of which the font maps nothing.
+const MOST_NAMED: usize = 8;
+
 // What is said of slices.
 struct Said {
     // The rules of a style sheet for them.
     rules: String,
-    // A line for each that has no glyph numbers, and of which the font maps nothing.
+    // A line for each of the first that have no glyph numbers, and of which the font maps nothing.
     unmapped: String,
+    // How many there are of these.
+    lacking: usize,
 }
 
 // Returns those codes of a slice that are among the mapped ones, as ranges.
@@ -103,6 +108,7 @@ impl Drop for Said {
         let Said {
             rules: _rules,
             unmapped: _unmapped,
+            lacking: _,
         } = self;
     }
 }
@@ -121,17 +127,37 @@ impl Said {
             return Ok(());
         }
         if ranges.is_empty() {
-            let name = ShownWord(slice.name);
-            write!(
-                self.unmapped,
-                "fontcut: slice {name}: the font maps none of its characters\n"
-            )?;
-            return Ok(());
+            return self.add_unmapped(slice.name);
         }
         match family {
             Some(family) => add_rule(&mut self.rules, family, slice.name, &ranges),
             None => Ok(()),
         }
+    }
+
+    // Adds that the font maps nothing of a slice. Only the first are named.
+    fn add_unmapped(&mut self, name: &str) -> Result<(), AllocError> {
+        if self.lacking < MOST_NAMED {
+            let name = ShownWord(name);
+            write!(
+                self.unmapped,
+                "fontcut: slice {name}: the font maps none of its characters\n"
+            )?;
+        }
+        self.lacking = self.lacking.saturating_add(1);
+        Ok(())
+    }
+
+    // Adds how many such slices are not named.
+    fn add_unnamed(&mut self) -> Result<(), AllocError> {
+        if self.lacking > MOST_NAMED {
+            let more = self.lacking - MOST_NAMED;
+            write!(
+                self.unmapped,
+                "fontcut: other slices of which the font maps nothing: {more}\n"
+            )?;
+        }
+        Ok(())
     }
 
     // Returns what is said of slices.
@@ -145,10 +171,12 @@ impl Said {
         let mut said = Said {
             rules: String::new(alloc),
             unmapped: String::new(alloc),
+            lacking: 0,
         };
         for slice in slices {
             said.add(alloc, family, &mapped, slice)?;
         }
+        said.add_unnamed()?;
         Ok(said)
     }
 
@@ -167,7 +195,11 @@ impl Said {
     ) -> Result<Outcome, CommandError<'static>>
         requires { fresh_of out.old ≡ true }
     {
-        let Said { rules, unmapped } = self;
+        let Said {
+            rules,
+            unmapped,
+            lacking: _,
+        } = self;
         let printed = print(out, rules.as_str())?;
         if is_quiet {
             return Ok(printed);

@@ -438,6 +438,17 @@ impl Coverage {
         self.text.reserve(LEAN_LINES.len() + LAST_LINES.len())
     }
 
+    /// Puts a text before the lines. All memory that the other lines need is asked for here.
+    ///
+    /// # Errors
+    /// `AllocError` if out of memory.
+    pub fn begin_with(&mut self, mut text: String) -> Result<(), AllocError> {
+        text.push_str(self.text.as_str())?;
+        text.reserve(LEAN_LINES.len() + LAST_LINES.len())?;
+        self.text = text;
+        Ok(())
+    }
+
     /// Returns whether a code is wanted, and the font maps each that is and has each sequence of lists.
     pub fn is_whole(&self) -> bool {
         self.wanted != 0 && !self.is_lacking()
