@@ -47,7 +47,7 @@ export interface Exactly {
 
 /**
  * A full or lean cut for characters alone may drop what shapes them, as `unshaped` says: then `console.warn` says so
- * once for each font, unless this is asked for. It also says of `subset` if the font maps no character of a text.
+ * once for each font, unless this is asked for. `subset` warns too if the font maps no character of a text.
  */
 export interface Quiet {
     quiet?: boolean;

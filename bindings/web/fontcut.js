@@ -213,7 +213,7 @@ function warnUnshaped(font, { kind, ranges, gids, quiet }) {
     }
 }
 
-// Says of a font that it maps no character of a text: its cut draws nothing of that.
+// Warns if a font maps no character of a text: its cut draws nothing of that text.
 function warnUnmapped(font, { text, unicodes, quiet }, { gids }) {
     if (!quiet && !gids.length && !unicodes && text?.trim() && !glyphs(font, text).some((one) => one)) {
         console.warn('fontcut: the font maps none of the wanted characters');

@@ -10,7 +10,7 @@ from typing import Any, Callable, Dict, FrozenSet, Iterable, Iterator, List, Nam
 from .cascade import Cascade, tag_of
 from .font_values import ANY, ANY_STYLE, ANY_WEIGHT, Families, Fonts
 from .generated import AFTER, BEFORE, Contents, Line, lines_with
-from .pages import INLINE, SILENT, is_drawn, is_field
+from .pages import INLINE, SILENT, ended, is_drawn, is_field
 from .selected import Selected
 from .shown import Additions
 from .styles import Added, cased
@@ -123,7 +123,7 @@ def _pieces(document: Any, fonts: Dict[Any, Fonts]) -> Iterator[List[_Piece]]:
         if its is None or tag in SILENT:
             return
         if tag not in INLINE:
-            yield from _ended(open_block)
+            yield from ended(open_block)
         for text in _attributes(node, tag):
             yield [(text, its)]
         if node.text:
@@ -133,17 +133,10 @@ def _pieces(document: Any, fonts: Dict[Any, Fonts]) -> Iterator[List[_Piece]]:
             if child.tail:
                 open_block.append((child.tail, its))
         if tag not in INLINE:
-            yield from _ended(open_block)
+            yield from ended(open_block)
 
     yield from walk(document)
-    yield from _ended(open_block)
-
-
-def _ended(block: List[_Piece]) -> Iterator[List[_Piece]]:
-    """A block that ends."""
-    if block:
-        yield list(block)
-        block.clear()
+    yield from ended(open_block)
 
 
 def _attributes(node: Any, tag: str) -> List[str]:

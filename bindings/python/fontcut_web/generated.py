@@ -12,7 +12,7 @@ import tinycss2
 from . import counters
 from .cascade import Cascade, element_of, known_selectors, listed, tag_of
 from .font_values import resolved
-from .pages import INLINE, SILENT
+from .pages import INLINE, SILENT, ended
 from .rules import Selectors, Subject, subjects_of
 from .selected import Selected, widened
 from .styles import quotes_of
@@ -26,7 +26,7 @@ _OPEN, _CLOSE = "\1", "\2"
 _PAIRS = [("\u201c", "\u201d"), ("\u2018", "\u2019"), ("\u201e", "\u201c"), ("\u201a", "\u2018"), ("\u201e", "\u201d"),
           ("\u201a", "\u2019"), ("\u201d", "\u201d"), ("\u2019", "\u2019"), ("\xab", "\xbb"), ("\xbb", "\xab"),
           ("\u2039", "\u203a"), ("\u203a", "\u2039"), ("\u300c", "\u300d"), ("\u300e", "\u300f")]
-# In so many ways a line is shaped at most, beside that without what is added.
+# How many ways of drawing a line are shaped at most, beside the one without what is added.
 MOST = 64
 _BLANKS, _HALF = re.compile("[ \t\n\f\r]+"), re.compile("[\ud800-\udfff]")
 _QUOTES = {"open-quote": _OPEN, "close-quote": _CLOSE}
@@ -225,7 +225,7 @@ def _blocks(contents: Contents, node: Any, inline: Set[Any]) -> Iterator[List[_P
             return
         is_inline = tag in INLINE or node in inline
         if not is_inline:
-            yield from _ended(found)
+            yield from ended(found)
         start = len(found)
         before, after = (contents.of(node, place) for place in (BEFORE, AFTER))
         found.append((before, node))
@@ -237,19 +237,12 @@ def _blocks(contents: Contents, node: Any, inline: Set[Any]) -> Iterator[List[_P
                 found.append((Slot((child.tail,)), node))
         found.append((after, node))
         if not is_inline:
-            yield from _ended(found)
+            yield from ended(found)
         elif node in contents.slots:
             yield list(found[start:])
 
     yield from walk(node)
-    yield from _ended(found)
-
-
-def _ended(block: List[_Piece]) -> Iterator[List[_Piece]]:
-    """A block that ends."""
-    if block:
-        yield list(block)
-        block.clear()
+    yield from ended(found)
 
 
 def _is_nested(block: Sequence[_Piece]) -> bool:

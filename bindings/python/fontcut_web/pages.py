@@ -5,7 +5,7 @@ import codecs
 import re
 import unicodedata
 from html.parser import HTMLParser
-from typing import Dict, List, Mapping, NamedTuple, Optional, Sequence, Set, Tuple
+from typing import Dict, Iterator, List, Mapping, NamedTuple, Optional, Sequence, Set, Tuple, TypeVar
 
 from . import counters
 from .common import Refused
@@ -52,6 +52,16 @@ def is_drawn(name: str, tag: str, kind: str, is_listed: bool) -> bool:
     if name == "value":
         return tag == "li" or tag == "option" and is_listed or tag == "input" and kind not in _UNDRAWN
     return name in ("alt", "placeholder") or name == "label" and tag in ("option", "optgroup")
+
+
+_Piece = TypeVar("_Piece")
+
+
+def ended(block: List[_Piece]) -> Iterator[List[_Piece]]:
+    """A block of text that ends, in pieces, if it has any; the next one begins without."""
+    if block:
+        yield list(block)
+        block.clear()
 
 
 def labels_of(tag: str, given: Mapping[str, str]) -> List[str]:
