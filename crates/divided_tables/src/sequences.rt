@@ -9,6 +9,8 @@ ghost use Rattle.divided_tables.specs.OpenSequences.{opened, parts_in};
 mod index;
 mod reading;
 mod tables;
+#[cfg(test)]
+mod tests;
 mod union;
 
 use crate::sequences::index::{index_of, keys_between};

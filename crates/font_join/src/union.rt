@@ -219,11 +219,7 @@ impl<'f, 'a, A: Memory + Copy> Union<'f, 'a, A> {
     }
 
     // Returns the first glyph that a cut and the union keep with another part in a table that is divided.
-    fn other_parts(
-        &self,
-        alloc: A,
-        file: &Listed<'_, 'a, A>,
-    ) -> Result<Option<u16>, NoMemory>
+    fn other_parts(&self, alloc: A, file: &Listed<'_, 'a, A>) -> Result<Option<u16>, NoMemory>
         requires same { file.now.0 ≡ self.now.kind }
         requires form { IsCut (format_of self.now.kind) file.now.1 }
         requires early { (K : Content) → SpellsIn self.now.kind (content_in self.now) K →

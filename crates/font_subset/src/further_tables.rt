@@ -24,7 +24,8 @@ use font_layout::fixed_table;
 use font_map::Chart;
 use font_theory::{Kind, SEQUENCES};
 use sfnt_bytes::{
-    ALL_SLOTS, BASE, CMAP, DirError, FIRST_VARIATION, GDEF, GPOS, GSUB, KERN, Memory, NoMemory, SLOTS,
+    ALL_SLOTS, BASE, CMAP, DirError, FIRST_VARIATION, GDEF, GPOS, GSUB, KERN, Memory, NoMemory,
+    SLOTS,
 };
 use std::alloc::{Allocator, Global};
 use std::marker::Model;

@@ -1,7 +1,6 @@
 -- The settings of each kind, and full cuts as those of a plain reader.
-use Rattle.std.proofs.Common.{not}
 use Rattle.std.proofs.Common.{◌≡◌, ℕ, Bool, true, false, cond, ◌&&◌, nat_eq, nat_lt, inl, inr, List, [], ◌⊎◌, refl, ◌∙◌}
-use Rattle.std.proofs.Common.{sym, ap, subst, ◌∷◌, Option, Some, None, ◌≢◌}
+use Rattle.std.proofs.Common.{sym, ap, subst, ◌∷◌, not, Option, Some, None, ◌≢◌}
 use Rattle.std.specs.Option.{option_map, option_or}
 use Rattle.std.proofs.lemmas.Bool.{both_ways, cases_Bool, cases_eq, false_from_ne_true, leb-false, ne_eqb, or_parts}
 use Rattle.sfnt_bytes.specs.Directory.{is_layout_slot, slot_tag, table_of}
