@@ -384,16 +384,18 @@ impl Counted {
     }
 }
 
-// Counts the codes that are wanted of a font and added.
+// Counts the codes that are wanted of a font and added. It does not lack the selectors of sequences that it has.
 fn count_codes(
     alloc: Global,
     font: &Font<'_>,
     kept: &Kept,
+    variants: &WantedSequences,
     kind: Kind,
 ) -> Result<Counted, AllocError> {
     let mapped = mapped_codes(alloc, font)?;
     let added = added_count(alloc, &mapped, &kept.wanted, &kept.added)?;
-    let lacked = kept.wanted.without(alloc, &mapped)?;
+    let unmapped = kept.wanted.without(alloc, &mapped)?;
+    let lacked = unmapped.without(alloc, &variants.selectors)?;
     Counted::of(alloc, font, kept, kind, &lacked, added)
 }
 
@@ -412,7 +414,7 @@ impl Coverage {
         kind: Kind,
         shows_characters: bool,
     ) -> Result<Coverage, AllocError> {
-        let counted = count_codes(alloc, font, kept, kind)?;
+        let counted = count_codes(alloc, font, kept, variants, kind)?;
         let mut text = counted.text(alloc, shows_characters)?;
         add_variants(&mut text, variants)?;
         add_tables(&mut text, kind, font, counted.shaped.as_str())?;
@@ -424,7 +426,7 @@ impl Coverage {
         })
     }
 
-    /// Adds what a cut of a kind drops of a font for wanted codes. All memory that the other lines need is asked for here.
+    /// Adds what a cut of a kind drops of a font for wanted codes.
     ///
     /// # Errors
     /// `AllocError` if out of memory.
@@ -434,8 +436,7 @@ impl Coverage {
         kind: Kind,
         wanted: &Wanted,
     ) -> Result<(), AllocError> {
-        add_never_kept(&mut self.text, font, kind, wanted)?;
-        self.text.reserve(LEAN_LINES.len() + LAST_LINES.len())
+        add_never_kept(&mut self.text, font, kind, wanted)
     }
 
     /// Puts a text before the lines. All memory that the other lines need is asked for here.

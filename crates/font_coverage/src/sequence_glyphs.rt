@@ -20,6 +20,8 @@ const NAMED: usize = 20;
 /// What a font has of the variation sequences that are wanted of it.
 pub struct WantedSequences {
     glyphs: CodeSet,
+    /// The selectors of those that the font has.
+    pub(crate) selectors: CodeSet,
     /// How many sequences are wanted.
     pub wanted: u32,
     /// How many of them the font has.
@@ -32,6 +34,7 @@ impl Drop for WantedSequences {
     fn drop(self) {
         let WantedSequences {
             glyphs: _glyphs,
+            selectors: _selectors,
             wanted: _,
             found: _,
             lacking: _lacking,
@@ -56,6 +59,7 @@ impl WantedSequences {
     fn none(alloc: Global) -> WantedSequences {
         WantedSequences {
             glyphs: CodeSet::new(alloc),
+            selectors: CodeSet::new(alloc),
             wanted: 0,
             found: 0,
             lacking: Vec::new(alloc),
@@ -66,6 +70,7 @@ impl WantedSequences {
     fn into_lacking(self) -> Vec<(u32, u32)> {
         let WantedSequences {
             glyphs: _glyphs,
+            selectors: _selectors,
             wanted: _,
             found: _,
             lacking,
@@ -78,6 +83,7 @@ impl WantedSequences {
         self.wanted = self.wanted.saturating_add(1);
         if glyph != 0 {
             self.found = self.found.saturating_add(1);
+            self.selectors.add(selector)?;
             return self.glyphs.add(u32::from(glyph));
         }
         if self.lacking.len() < NAMED {
