@@ -1,0 +1,229 @@
+-- A table that is divided in a way is divided as is asked.
+use Rattle.std.proofs.Common.{◌≡◌, ℕ, ◌<◌, Bool, true, false, cond, eqb, not, ◌&&◌, ◌⊎◌, List, [], refl, ap, sym, ◌∙◌}
+use Rattle.std.proofs.Common.{inl, inr}
+use Rattle.std.proofs.lemmas.Bool.{cases_Bool, cases_eq, cond-false, cond-true, eq-eqb, ne_eqb}
+use Rattle.font_theory.specs.Content.{glyph_count}
+use Rattle.font_theory.specs.Parting.{IsParting}
+use Rattle.colour_parts.specs.Ways.{IsWay, Says, Way, alone, parting_by, said_by}
+
+module _ {X : Type 0} (way : Way X) (IsSaid : ℕ → X → Type 0) (are : IsWay way IsSaid) where
+  -- the part of a glyph
+  abbrev part_in : ℕ → List ℕ → ℕ → List ℕ
+  part_in n t g =
+      cond (way.divided n t && not (way.is_nothing (way.said n t g)))
+      (way.made n (way.front t) (alone way g (way.said n t g))) []
+
+  -- the part of what is said
+  abbrev part_by : ℕ → List ℕ → ℕ → X → List ℕ
+  part_by n front g x = cond (not (way.is_nothing x)) (way.made n front (alone way g x)) []
+
+  part-divided : (n : ℕ) (t : List ℕ) (g : ℕ) → way.divided n t ≡ true
+      → part_in n t g ≡ part_by n (way.front t) g (way.said n t g)
+  part-divided n t g d =
+      ap (λ b. cond (b && not (way.is_nothing (way.said n t g)))
+      (way.made n (way.front t) (alone way g (way.said n t g))) []) d
+
+  part-whole : (n : ℕ) (t : List ℕ) (g : ℕ) → way.divided n t ≡ false → part_in n t g ≡ []
+  part-whole n t g d =
+      ap (λ b. cond (b && not (way.is_nothing (way.said n t g)))
+      (way.made n (way.front t) (alone way g (way.said n t g))) []) d
+
+  -- what a table without a byte says
+  said-none : (n g : ℕ) (b : List ℕ) → b ≡ [] → cond (way.divided n b) (way.said n b g) way.nothing ≡ way.nothing
+  said-none n g b e = cond-false (way.divided n b) _ _ (ap (way.divided n) e ∙ are.none n)
+
+  -- something said of one glyph has room where a table says it
+  alone-room : (n : ℕ) (t : List ℕ) (g : ℕ) → way.divided n t ≡ true
+      → way.room n (alone way g (way.said n t g)) ≡ true
+  alone-room n t g d =
+      are.room_less n (way.said n t) (alone way g (way.said n t g)) (λ h l. by_case h (cases_eq h g)) (are.has_room n t d)
+    where
+      by_case : (h : ℕ) → (h ≡ g) ⊎ (h ≡ g → ⊥)
+          → (alone way g (way.said n t g) h ≡ way.nothing) ⊎ (alone way g (way.said n t g) h ≡ way.said n t h)
+      by_case h (inl e) = inr (cond-true (eqb h g) _ _ (eq-eqb h g e) ∙ ap (way.said n t) (sym e))
+      by_case h (inr o) = inl (cond-false (eqb h g) _ _ (ne_eqb h g o))
+
+  alone-said : (n : ℕ) (t : List ℕ) (g : ℕ) → way.divided n t ≡ true → (h : ℕ)
+      → IsSaid n (alone way g (way.said n t g) h)
+  alone-said n t g d h = by_test (eqb h g)
+    where
+      by_test : (b : Bool) → IsSaid n (cond b (way.said n t g) way.nothing)
+      by_test true = are.read n t d g
+      by_test false = are.nothing_said n
+
+  -- the part of a glyph says what the table says
+  part-says : (n : ℕ) (t : List ℕ) (g : ℕ) → way.divided n t ≡ true → g < n
+      → cond (way.divided n (part_in n t g)) (way.said n (part_in n t g) g) way.nothing ≡ way.said n t g
+  part-says n t g d l =
+      ap (λ (b : List ℕ). cond (way.divided n b) (way.said n b g) way.nothing) (part-divided n t g d)
+      ∙ by_test (way.is_nothing (way.said n t g)) refl
+    where
+      x : X
+      x = way.said n t g
+
+      mine : List ℕ
+      mine = way.made n (way.front t) (alone way g (way.said n t g))
+
+      by_test : (b : Bool) → way.is_nothing (way.said n t g) ≡ b
+          → cond (way.divided n (cond (not b) (way.made n (way.front t) (alone way g (way.said n t g))) []))
+          (way.said n (cond (not b) (way.made n (way.front t) (alone way g (way.said n t g))) []) g) way.nothing
+          ≡ way.said n t g
+      by_test true e = cond-false (way.divided n []) _ _ (are.none n) ∙ sym (are.nothing _ e)
+      by_test false e =
+          let says = are.made n t (alone way g (way.said n t g)) d (alone-said n t g d) (alone-room n t g d) in
+          cond-true (way.divided n (way.made n (way.front t) (alone way g (way.said n t g)))) _ _ says.divided
+          ∙ says.said g l ∙ cond-true (eqb g g) _ _ (eq-eqb g g refl)
+
+  -- what parts say is what is read
+  parts-said : (n : ℕ) (parts : ℕ → List ℕ) (g : ℕ) → IsSaid n (said_by way n parts g)
+  parts-said n parts g = by_test (way.divided n (parts g)) refl
+    where
+      by_test : (b : Bool) → way.divided n (parts g) ≡ b → IsSaid n (cond b (way.said n (parts g) g) way.nothing)
+      by_test true e = are.read n (parts g) e g
+      by_test false e = are.nothing_said n
+
+  none-room : (n : ℕ) (t : List ℕ) → way.divided n t ≡ true → way.room n (λ _. way.nothing) ≡ true
+  none-room n t d = are.room_less n (way.said n t) (λ _. way.nothing) (λ g l. inl refl) (are.has_room n t d)
+
+  none-says : (n : ℕ) (t : List ℕ) → way.divided n t ≡ true
+      → Says way n (way.front t) (λ _. way.nothing) (way.made n (way.front t) (λ _. way.nothing))
+  none-says n t d = are.made n t (λ _. way.nothing) d (λ g. are.nothing_said n) (none-room n t d)
+
+  whole-says : (n : ℕ) (t : List ℕ) (parts : ℕ → List ℕ) → way.divided n t ≡ true
+      → way.room n (said_by way n parts) ≡ true
+      → Says way n (way.front t) (said_by way n parts) (way.made n (way.front t) (said_by way n parts))
+  whole-says n t parts d fit = are.made n t (said_by way n parts) d (parts-said n parts) fit
+
+  abbrev frame_in : ℕ → List ℕ → List ℕ
+  frame_in n t = cond (way.divided n t) (way.made n (way.front t) (λ _. way.nothing)) t
+
+  abbrev whole_in : ℕ → List ℕ → (ℕ → List ℕ) → List ℕ
+  whole_in n t parts = cond (way.divided n t) (way.made n (way.front t) (said_by way n parts)) t
+
+  abbrev fits_in : ℕ → List ℕ → (ℕ → List ℕ) → Bool
+  fits_in n t parts = cond (way.divided n t) (way.room n (said_by way n parts)) true
+
+  frame-divided : (n : ℕ) (t : List ℕ) → way.divided n t ≡ true
+      → frame_in n t ≡ way.made n (way.front t) (λ _. way.nothing)
+  frame-divided n t d = cond-true (way.divided n t) _ _ d
+
+  -- a frame is divided as its table is
+  frame-is_divided : (n : ℕ) (t : List ℕ) → way.divided n (frame_in n t) ≡ way.divided n t
+  frame-is_divided n t = elim (cases_Bool (way.divided n t)) [
+    | inl d ↦ ap (way.divided n) (frame-divided n t d) ∙ (none-says n t d).divided ∙ sym d
+    | inr f ↦ ap (way.divided n) (cond-false (way.divided n t) _ _ f)
+  ]
+
+  -- the frame of a table that was made
+  frame-made : (n : ℕ) (front : List ℕ) (x : ℕ → X) (t : List ℕ) → Says way n front x t
+      → frame_in n t ≡ way.made n front (λ _. way.nothing)
+  frame-made n front x t says =
+      frame-divided n t says.divided ∙ ap (λ (f : List ℕ). way.made n f (λ _. way.nothing)) says.front
+
+  frame_once : (n : ℕ) (t : List ℕ) → frame_in n (frame_in n t) ≡ frame_in n t
+  frame_once n t = elim (cases_Bool (way.divided n t)) [
+    | inl d ↦
+        ap (frame_in n) (frame-divided n t d)
+        ∙ frame-made n (way.front t) (λ _. way.nothing) _ (none-says n t d) ∙ sym (frame-divided n t d)
+    | inr f ↦ ap (frame_in n) (cond-false (way.divided n t) _ _ f)
+  ]
+
+  own_fits : (n : ℕ) (t : List ℕ) → fits_in n (frame_in n t) (part_in n t) ≡ true
+  own_fits n t =
+      ap (λ b. cond b (way.room n (said_by way n (part_in n t))) true) (frame-is_divided n t)
+      ∙ by_test (way.divided n t) refl
+    where
+      by_test : (b : Bool) → way.divided n t ≡ b → cond b (way.room n (said_by way n (part_in n t))) true ≡ true
+      by_test true d =
+          are.room_less n (way.said n t) (said_by way n (part_in n t)) (λ g l. inr (part-says n t g d l))
+          (are.has_room n t d)
+      by_test false f = refl
+
+  fewer_fits : (n : ℕ) (t : List ℕ) (parts fewer : ℕ → List ℕ) → fits_in n t parts ≡ true
+      → ((g : ℕ) → (fewer g ≡ []) ⊎ (fewer g ≡ parts g)) → fits_in n t fewer ≡ true
+  fewer_fits n t parts fewer fit few = by_test (way.divided n t) refl
+    where
+      less : (g : ℕ) → (fewer g ≡ []) ⊎ (fewer g ≡ parts g)
+          → (said_by way n fewer g ≡ way.nothing) ⊎ (said_by way n fewer g ≡ said_by way n parts g)
+      less g (inl e) = inl (said-none n g (fewer g) e)
+      less g (inr e) = inr (ap (λ (b : List ℕ). cond (way.divided n b) (way.said n b g) way.nothing) e)
+
+      by_test : (b : Bool) → way.divided n t ≡ b → cond b (way.room n (said_by way n fewer)) true ≡ true
+      by_test true d =
+          are.room_less n (said_by way n parts) (said_by way n fewer) (λ g l. less g (few g))
+          (sym (cond-true (way.divided n t) _ _ d) ∙ fit)
+      by_test false f = refl
+
+  room_of : (n : ℕ) (t : List ℕ) (parts : ℕ → List ℕ) → way.divided n t ≡ true → fits_in n t parts ≡ true
+      → way.room n (said_by way n parts) ≡ true
+  room_of n t parts d fit = sym (cond-true (way.divided n t) _ _ d) ∙ fit
+
+  frame_whole : (n : ℕ) (t : List ℕ) (parts : ℕ → List ℕ) → fits_in n t parts ≡ true
+      → frame_in n (whole_in n t parts) ≡ frame_in n t
+  frame_whole n t parts fit = elim (cases_Bool (way.divided n t)) [
+    | inl d ↦
+        ap (frame_in n) (cond-true (way.divided n t) _ _ d)
+        ∙ frame-made n (way.front t) (said_by way n parts) _ (whole-says n t parts d (room_of n t parts d fit))
+        ∙ sym (frame-divided n t d)
+    | inr f ↦ ap (frame_in n) (cond-false (way.divided n t) _ _ f)
+  ]
+
+  -- the part of a glyph in a table that was made
+  part-made : (n : ℕ) (front : List ℕ) (x : ℕ → X) (t : List ℕ) (g : ℕ) → Says way n front x t → g < n
+      → part_in n t g ≡ part_by n front g (x g)
+  part-made n front x t g says l =
+      part-divided n t g says.divided ∙ (λ i. part_by n (says.front i) g (says.said g l i))
+
+  -- the front of a table with this frame
+  front_of : (n : ℕ) (t u : List ℕ) → way.divided n t ≡ true → way.divided n u ≡ true → frame_in n u ≡ frame_in n t
+      → way.front u ≡ way.front t
+  front_of n t u d e same =
+      sym ((none-says n u e).front) ∙ ap way.front (sym (frame-divided n u e) ∙ same ∙ frame-divided n t d)
+      ∙ (none-says n t d).front
+
+  -- what a part says, as a part again
+  part_again : (n : ℕ) (t : List ℕ) (g : ℕ) (b : List ℕ) → way.divided n t ≡ true → g < n
+      → (b ≡ []) ⊎ ((u : List ℕ) × (frame_in n u ≡ t) × (part_in n u g ≡ b))
+      → part_by n (way.front t) g (cond (way.divided n b) (way.said n b g) way.nothing) ≡ b
+  part_again n t g b d l (inl e) = ap (part_by n (way.front t) g) (said-none n g b e) ∙ by_nothing ∙ sym e
+    where
+      by_nothing : part_by n (way.front t) g way.nothing ≡ []
+      by_nothing = cond-false (not (way.is_nothing way.nothing)) _ _ (ap not are.is_nothing)
+  part_again n t g b d l (inr w) =
+      let u = w.0 in
+      let e : way.divided n u ≡ true = sym (frame-is_divided n u) ∙ ap (way.divided n) w.1 ∙ d in
+      let same : way.front u ≡ way.front t = sym ((none-says n u e).front) ∙ ap way.front (sym (frame-divided n u e) ∙ w.1) in
+      ap (part_by n (way.front t) g)
+      (ap (λ (p : List ℕ). cond (way.divided n p) (way.said n p g) way.nothing) (sym w.2) ∙ part-says n u g e l)
+      ∙ ap (λ (f : List ℕ). part_by n f g (way.said n u g)) (sym same) ∙ sym (part-divided n u g e) ∙ w.2
+
+  part_whole : (n : ℕ) (t : List ℕ) (parts : ℕ → List ℕ) (g : ℕ) → fits_in n t parts ≡ true → g < n
+      → (parts g ≡ []) ⊎ ((u : List ℕ) × (frame_in n u ≡ t) × (part_in n u g ≡ parts g))
+      → part_in n (whole_in n t parts) g ≡ parts g
+  part_whole n t parts g fit l part = elim (cases_Bool (way.divided n t)) [
+    | inl d ↦
+        ap (λ (u : List ℕ). part_in n u g) (cond-true (way.divided n t) _ _ d)
+        ∙ part-made n (way.front t) (said_by way n parts) _ g (whole-says n t parts d (room_of n t parts d fit)) l
+        ∙ part_again n t g (parts g) d l part
+    | inr f ↦
+        ap (λ (u : List ℕ). part_in n u g) (cond-false (way.divided n t) _ _ f) ∙ part-whole n t g f
+        ∙ sym (no_part part f)
+  ]
+    where
+      no_part : (parts g ≡ []) ⊎ ((u : List ℕ) × (frame_in n u ≡ t) × (part_in n u g ≡ parts g))
+          → way.divided n t ≡ false → parts g ≡ []
+      no_part (inl e) f = e
+      no_part (inr w) f =
+          sym w.2 ∙ part-whole n w.0 g (sym (frame-is_divided n w.0) ∙ ap (way.divided n) w.1 ∙ f)
+
+  pub way_parts : IsParting (λ _ _. false) (parting_by way)
+  unfolding parting_by
+  way_parts = record {
+    frame_good = λ c t h. refl;
+    whole_good = λ c frame parts h fit. refl;
+    frame_again = λ c t h. frame_once (glyph_count c) t;
+    own_fit = λ c t h. own_fits (glyph_count c) t;
+    fewer_fit = λ c frame parts fewer h fit few. fewer_fits (glyph_count c) frame parts fewer fit few;
+    frame_is = λ c frame parts h fit. frame_whole (glyph_count c) frame parts fit;
+    part_is = λ c frame parts g h fit low part. part_whole (glyph_count c) frame parts g fit low part;
+  }

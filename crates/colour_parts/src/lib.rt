@@ -1,0 +1,7 @@
+//! Colour tables as divided tables: how what is drawn in colours belongs to glyphs, and laws of it.
+//! OpenType 1.9, COLR.
+#![tactic(auto)]
+
+mod laws;
+
+pub use crate::laws::layer_tables_are_divided;

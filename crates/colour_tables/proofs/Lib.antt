@@ -1,0 +1,3 @@
+pub mod GlyphLemmas
+pub mod LayerLemmas
+pub mod LayerReadLemmas

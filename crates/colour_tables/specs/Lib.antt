@@ -1,0 +1,4 @@
+pub mod Glyphs
+pub mod Laws
+pub mod LayerLists
+pub mod MadeLayers

@@ -1,0 +1,9 @@
+//! Colour tables: what is drawn for a glyph in colours.
+//! OpenType 1.9, COLR.
+#![tactic(auto)]
+
+mod laws;
+mod layer;
+
+pub use crate::laws::layers_are_read_back;
+pub use crate::layer::{Base, Layer};
