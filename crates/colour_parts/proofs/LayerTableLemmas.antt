@@ -86,7 +86,7 @@ room_read : (n : ℕ) (t : List ℕ) → is_layer_table n t ≡ true → layers_
 unfolding is_layer_table
 room_read n t is = (and_parts _ _ is).1
 
-layer_way_is : IsWay layer_way (λ _ _. Unit {0})
+pub layer_way_is : IsWay layer_way (λ _ _. Unit {0})
 unfolding layer_way is_layer_table
 layer_way_is = record {
   nothing = no_layers;

@@ -1,2 +1,5 @@
-pub mod WayLemmas
+pub mod ColourTableLemmas
 pub mod LayerTableLemmas
+pub mod PaintTableLemmas
+pub mod SideLemmas
+pub mod WayLemmas

@@ -94,13 +94,13 @@ module _ {X : Type 0} (way : Way X) (IsSaid : ℕ → X → Type 0) (are : IsWay
       → Says way n (way.front t) (said_by way n parts) (way.made n (way.front t) (said_by way n parts))
   whole-says n t parts d fit = are.made n t (said_by way n parts) d (parts-said n parts) fit
 
-  abbrev frame_in : ℕ → List ℕ → List ℕ
+  abbrev pub frame_in : ℕ → List ℕ → List ℕ
   frame_in n t = cond (way.divided n t) (way.made n (way.front t) (λ _. way.nothing)) t
 
-  abbrev whole_in : ℕ → List ℕ → (ℕ → List ℕ) → List ℕ
+  abbrev pub whole_in : ℕ → List ℕ → (ℕ → List ℕ) → List ℕ
   whole_in n t parts = cond (way.divided n t) (way.made n (way.front t) (said_by way n parts)) t
 
-  abbrev fits_in : ℕ → List ℕ → (ℕ → List ℕ) → Bool
+  abbrev pub fits_in : ℕ → List ℕ → (ℕ → List ℕ) → Bool
   fits_in n t parts = cond (way.divided n t) (way.room n (said_by way n parts)) true
 
   frame-divided : (n : ℕ) (t : List ℕ) → way.divided n t ≡ true
@@ -108,7 +108,7 @@ module _ {X : Type 0} (way : Way X) (IsSaid : ℕ → X → Type 0) (are : IsWay
   frame-divided n t d = cond-true (way.divided n t) _ _ d
 
   -- a frame is divided as its table is
-  frame-is_divided : (n : ℕ) (t : List ℕ) → way.divided n (frame_in n t) ≡ way.divided n t
+  pub frame-is_divided : (n : ℕ) (t : List ℕ) → way.divided n (frame_in n t) ≡ way.divided n t
   frame-is_divided n t = elim (cases_Bool (way.divided n t)) [
     | inl d ↦ ap (way.divided n) (frame-divided n t d) ∙ (none-says n t d).divided ∙ sym d
     | inr f ↦ ap (way.divided n) (cond-false (way.divided n t) _ _ f)
@@ -157,6 +157,16 @@ module _ {X : Type 0} (way : Way X) (IsSaid : ℕ → X → Type 0) (are : IsWay
   room_of : (n : ℕ) (t : List ℕ) (parts : ℕ → List ℕ) → way.divided n t ≡ true → fits_in n t parts ≡ true
       → way.room n (said_by way n parts) ≡ true
   room_of n t parts d fit = sym (cond-true (way.divided n t) _ _ d) ∙ fit
+
+  -- so is the table of parts that fit
+  pub whole-is_divided : (n : ℕ) (t : List ℕ) (parts : ℕ → List ℕ) → fits_in n t parts ≡ true
+      → way.divided n (whole_in n t parts) ≡ way.divided n t
+  whole-is_divided n t parts fit = elim (cases_Bool (way.divided n t)) [
+    | inl d ↦
+        ap (way.divided n) (cond-true (way.divided n t) _ _ d)
+        ∙ (whole-says n t parts d (room_of n t parts d fit)).divided ∙ sym d
+    | inr f ↦ ap (way.divided n) (cond-false (way.divided n t) _ _ f)
+  ]
 
   frame_whole : (n : ℕ) (t : List ℕ) (parts : ℕ → List ℕ) → fits_in n t parts ≡ true
       → frame_in n (whole_in n t parts) ≡ frame_in n t

@@ -1,3 +1,5 @@
+pub mod ColourTables
 pub mod Laws
 pub mod LayerTables
+pub mod PaintTables
 pub mod Ways

@@ -1,7 +1,17 @@
 //! Laws of colour tables as divided tables: the contract of each function is what it says.
-ghost use Rattle.colour_parts.specs.Laws.{LayerTablesAreDivided};
+ghost use Rattle.colour_parts.specs.Laws.{ColourTablesAreDivided, LayerTablesAreDivided, PaintTablesAreDivided};
 
 /// A colour table of version 0 is divided by glyph as each divided table is.
 pub fn layer_tables_are_divided()
     ensures { LayerTablesAreDivided }
+{}
+
+/// A colour table of version 1 is divided by glyph as each divided table is.
+pub fn paint_tables_are_divided()
+    ensures { PaintTablesAreDivided }
+{}
+
+/// Colour tables of both versions are divided by glyph as each divided table is.
+pub fn colour_tables_are_divided()
+    ensures { ColourTablesAreDivided }
 {}

@@ -4,4 +4,6 @@
 
 mod laws;
 
-pub use crate::laws::layer_tables_are_divided;
+pub use crate::laws::{
+    colour_tables_are_divided, layer_tables_are_divided, paint_tables_are_divided,
+};

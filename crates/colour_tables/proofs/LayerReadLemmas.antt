@@ -29,7 +29,7 @@ offset-some count place some = ap (λ b. cond b 0 place) (ne_eqb count 0 (λ e. 
 pub left_long : (place : ℕ) (t : List ℕ) → length (drop place t) ≡ length t - place
 left_long place t = length-drop place t
 
-or_right : (x y : Bool) → y ≡ true → (x || y) ≡ true
+pub or_right : (x y : Bool) → y ≡ true → (x || y) ≡ true
 or_right true y t = refl
 or_right false y t = t
 

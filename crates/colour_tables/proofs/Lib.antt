@@ -1,3 +1,9 @@
 pub mod GlyphLemmas
 pub mod LayerLemmas
 pub mod LayerReadLemmas
+pub mod PaintListLemmas
+pub mod ShapeLemmas
+pub mod ForestLemmas
+pub mod FormedLemmas
+pub mod PaintReadLemmas
+pub mod PaintTableLemmas

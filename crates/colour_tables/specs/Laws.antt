@@ -1,9 +1,15 @@
 -- Laws of colour tables, this project's own, each of them the contract of a function.
-use Rattle.std.specs.Prelude.{◌≡◌, ℕ, ◌+◌, ◌<◌, true, List, ◌++◌, length, Option}
+use Rattle.std.specs.Prelude.{◌≡◌, ℕ, ◌+◌, ◌<◌, ◌≤◌, true, List, ◌++◌, length, Option, Some, IfSome}
+use Rattle.sfnt_bytes.specs.Number.{u16_at}
 use Rattle.colour_tables.specs.Glyphs.{listed}
 use Rattle.colour_tables.specs.LayerLists.{has_layer_lists, layers_at}
 use Rattle.colour_tables.specs.MadeLayers.{layer_header, layer_lists}
+use Rattle.colour_tables.specs.MadePaints.{paint_table}
+use Rattle.colour_tables.specs.PaintLists.{Colour, box_at, has_paint_lists, paint_at, tree_in}
+use Rattle.colour_tables.specs.Paints.{Tree}
 use Rattle.colour_tables.specs.declared.layer.Layer.{Layer}
+use Rattle.colour_tables.specs.declared.shape.Kind.{Kind}
+use Rattle.colour_tables.specs.declared.shape.Kind.TheVariants.{ClipBox, Paint}
 
 -- the layers of n glyphs are what is read of a table
 pub record HasLayersOf (n : ℕ) (said : ℕ → Option (List Layer)) (t : List ℕ) : Type 0 where
@@ -16,3 +22,25 @@ LayersAreReadBack =
     (n version : ℕ) (layers : ℕ → Option (List Layer)) (between after : List ℕ)
     → HasLayersOf n layers
     (layer_header version (14 + length between) (listed layers 0 n) ++ between ++ layer_lists (listed layers 0 n) ++ after)
+
+-- a tree, if there is one, is read as a kind of some table of n glyphs
+abbrev pub IsRead : ℕ → Kind → Option Tree → Type 0
+IsRead n k tree = IfSome tree (λ x. (t : List ℕ) × (at : ℕ) × (tree_in n t k at ≡ Some x))
+
+-- the paints and clip boxes of glyphs are so
+abbrev pub AreRead : ℕ → (ℕ → Colour) → Type 0
+AreRead n x = (g : ℕ) → IsRead n Paint (x g).paint × IsRead n ClipBox (x g).box
+
+-- what is said of n glyphs is what is read of a table of version 1
+pub record HasColoursOf (n : ℕ) (x : ℕ → Colour) (t : List ℕ) : Type 0 where
+  pub version : u16_at t 0 ≡ 1
+  pub header : 34 ≤ length t
+  pub layer_lists : has_layer_lists n t ≡ true
+  pub paint_lists : has_paint_lists n t ≡ true
+  pub layers : (g : ℕ) → g < n → layers_at t g ≡ (x g).layers
+  pub paint : (g : ℕ) → g < n → paint_at n t g ≡ (x g).paint
+  pub box : (g : ℕ) → g < n → box_at n t g ≡ (x g).box
+
+-- what is written of glyphs is read back
+abbrev pub PaintsAreReadBack : Type 0
+PaintsAreReadBack = (n : ℕ) (x : ℕ → Colour) → AreRead n x → HasColoursOf n x (paint_table n x)

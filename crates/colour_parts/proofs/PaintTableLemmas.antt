@@ -1,0 +1,128 @@
+-- Colour tables of version 1 are divided.
+use Rattle.std.proofs.Common.{◌≡◌, ℕ, ◌<◌, ◌≤◌, true, false, leb, not, ◌&&◌, ◌||◌, ◌⊎◌, List}
+use Rattle.std.proofs.Common.{length, Option, None, Some, is_some, refl, ap, ◌∙◌, arith, inl, inr}
+use Rattle.std.specs.Option.{option_and_then}
+use Rattle.std.proofs.lemmas.Bool.{and_from, and_parts, both_ways, eq-eqb, le-leb, leb-true}
+use Rattle.sfnt_bytes.specs.Number.{u16_at}
+use Rattle.colour_tables.specs.Glyphs.{said_of, sum_below}
+use Rattle.colour_tables.specs.LayerLists.{layers_have_room}
+use Rattle.colour_tables.specs.Laws.{HasColoursOf, IsRead}
+use Rattle.colour_tables.specs.MadePaints.{paint_table}
+use Rattle.colour_tables.specs.PaintLists.{Colour, MAX_BYTES, box_at, clip_place, clips_of, colour_at, colour_size}
+use Rattle.colour_tables.specs.PaintLists.{colours_have_room, paint_at, roots_of, tree_in}
+use Rattle.colour_tables.specs.Paints.{Tree}
+use Rattle.colour_tables.specs.declared.layer.Layer.{Layer}
+use Rattle.colour_tables.specs.declared.shape.Kind.{Kind}
+use Rattle.colour_tables.specs.declared.shape.Kind.TheVariants.{ClipBox, Paint}
+use Rattle.colour_tables.proofs.GlyphLemmas.{sum-less, sum-same}
+use Rattle.colour_tables.proofs.PaintTableLemmas.{paints_back}
+use Rattle.colour_parts.specs.Laws.{PaintTablesAreDivided}
+use Rattle.colour_parts.specs.PaintTables.{is_paint_table, no_colour, paint_way}
+use Rattle.colour_parts.specs.Ways.{IsWay}
+use Rattle.colour_parts.proofs.LayerTableLemmas.{room_less, room_same}
+use Rattle.colour_parts.proofs.WayLemmas.{way_parts}
+
+-- what is known of what is said of a glyph
+abbrev pub IsSaid : ℕ → Colour → Type 0
+IsSaid n c = IsRead n Paint c.paint × IsRead n ClipBox c.box
+
+-- where nothing is said
+nothing-of : (layers : Option (List Layer)) (paint box : Option Tree)
+    → not (is_some layers || is_some paint || is_some box) ≡ true
+    → ◌≡◌ {A = Colour} (record { layers = layers; paint = paint; box = box }) no_colour
+nothing-of None None None t = refl
+nothing-of (Some x) paint box t = absurd (both_ways false refl t)
+nothing-of None (Some x) box t = absurd (both_ways false refl t)
+nothing-of None None (Some x) t = absurd (both_ways false refl t)
+
+-- less has room where more has
+colours_less : (n : ℕ) (x y : ℕ → Colour) → ((g : ℕ) → g < n → (y g ≡ no_colour) ⊎ (y g ≡ x g))
+    → colours_have_room n x ≡ true → colours_have_room n y ≡ true
+unfolding colours_have_room
+colours_less n x y less t =
+    let both = and_parts (layers_have_room n (λ g. (x g).layers)) (leb (sum_below (λ g. colour_size (x g)) n) MAX_BYTES) t in
+    let most = leb-true _ _ both.1 in
+    and_from _ _ (room_less n (λ g. (x g).layers) (λ g. (y g).layers) (λ g l. fewer (x g) (y g) (less g l)) both.0)
+    (le-leb _ _ (omega (
+      arith,
+      most,
+      sum-less (λ g. colour_size (x g)) (λ g. colour_size (y g)) n
+          (λ g l. shorter (x g) (y g) (less g l)),
+    )))
+  where
+    fewer : (old new : Colour) → (new ≡ no_colour) ⊎ (new ≡ old)
+        → (new.layers ≡ None) ⊎ (new.layers ≡ old.layers)
+    fewer old new (inl e) = inl (ap (λ (c : Colour). c.layers) e)
+    fewer old new (inr e) = inr (ap (λ (c : Colour). c.layers) e)
+
+    shorter : (old new : Colour) → (new ≡ no_colour) ⊎ (new ≡ old) → colour_size new ≤ colour_size old
+    shorter old new (inl e) = omega (arith, ap colour_size e)
+    shorter old new (inr e) = omega (arith, ap colour_size e)
+
+-- equal colours have room alike
+colours_same : (n : ℕ) (x y : ℕ → Colour) → ((g : ℕ) → g < n → x g ≡ y g)
+    → colours_have_room n x ≡ colours_have_room n y
+unfolding colours_have_room
+colours_same n x y same =
+    let layers =
+    room_same n (λ g. (x g).layers) (λ g. (y g).layers) (λ g l. ap (λ (c : Colour). c.layers) (same g l)) in
+    let sums =
+    sum-same (λ g. colour_size (x g)) (λ g. colour_size (y g)) n (λ g l. ap colour_size (same g l)) in
+    λ i. layers i && leb (sums i) MAX_BYTES
+
+-- what is read of a table
+tree-read : (n : ℕ) (t : List ℕ) (k : Kind) (o : Option ℕ) → IsRead n k (option_and_then (tree_in n t k) o)
+tree-read n t k None = tt
+tree-read n t k (Some at) = by_tree (tree_in n t k at) refl
+  where
+    by_tree : (o : Option Tree) → tree_in n t k at ≡ o → IsRead n k o
+    by_tree None e = tt
+    by_tree (Some tree) e = (t, at, e)
+
+colour-read : (n : ℕ) (t : List ℕ) (g : ℕ) → IsSaid n (colour_at n t g)
+unfolding paint_at box_at
+colour-read n t g =
+    (tree-read n t Paint (said_of g (roots_of t)), tree-read n t ClipBox (clip_place g (clips_of t)))
+
+-- what is read of a table that is written
+colour-same : (n : ℕ) (x : ℕ → Colour) (t : List ℕ) → HasColoursOf n x t → (g : ℕ) → g < n
+    → colour_at n t g ≡ x g
+colour-same n x t has g l =
+    let layers = has.layers g l in
+    let paint = has.paint g l in
+    let box = has.box g l in
+    λ i. record { layers = layers i; paint = paint i; box = box i }
+
+table_is : (n : ℕ) (x : ℕ → Colour) (t : List ℕ) → HasColoursOf n x t → colours_have_room n x ≡ true
+    → is_paint_table n t ≡ true
+unfolding is_paint_table
+table_is n x t has room =
+    and_from _ _ (and_from _ _ (and_from _ _ (and_from _ _ (le-leb 34 (length t) has.header)
+    (eq-eqb (u16_at t 0) 1 has.version)) has.layer_lists) has.paint_lists)
+    (colours_same n (colour_at n t) x (colour-same n x t has) ∙ room)
+
+room_read : (n : ℕ) (t : List ℕ) → is_paint_table n t ≡ true → colours_have_room n (colour_at n t) ≡ true
+unfolding is_paint_table
+room_read n t is = (and_parts _ _ is).1
+
+pub paint_way_is : IsWay paint_way IsSaid
+unfolding paint_way is_paint_table
+paint_way_is = record {
+  nothing = λ c t. nothing-of c.layers c.paint c.box t;
+  is_nothing = refl;
+  none = λ n. refl;
+  room_less = colours_less;
+  nothing_said = λ n. (tt, tt);
+  read = λ n t is g. colour-read n t g;
+  has_room = room_read;
+  made = λ n t x is said room.
+      let has = paints_back n x said in
+      record {
+        divided = table_is n x (paint_table n x) has room;
+        front = refl;
+        said = colour-same n x (paint_table n x) has;
+      };
+}
+
+pub paint_tables_are : PaintTablesAreDivided
+paint_tables_are = way_parts paint_way IsSaid paint_way_is

@@ -1,0 +1,5 @@
+use Rattle.colour_parts.proofs.PaintTableLemmas.{paint_tables_are}
+use Rattle.colour_parts.proofs.laws.paint_tables_are_divided.Goals as goal
+
+pub returns : goal.returns
+returns c = paint_tables_are
