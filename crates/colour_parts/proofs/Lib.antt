@@ -3,3 +3,4 @@ pub mod LayerTableLemmas
 pub mod PaintTableLemmas
 pub mod SideLemmas
 pub mod WayLemmas
+pub mod WorkedLemmas

@@ -3,3 +3,4 @@ pub mod Laws
 pub mod LayerTables
 pub mod PaintTables
 pub mod Ways
+pub mod WorkedColours

@@ -1,5 +1,6 @@
 //! Laws of colour tables as divided tables: the contract of each function is what it says.
 ghost use Rattle.colour_parts.specs.Laws.{ColourTablesAreDivided, LayerTablesAreDivided, PaintTablesAreDivided};
+ghost use Rattle.colour_parts.specs.WorkedColours.{WorkedColoursAre};
 
 /// A colour table of version 0 is divided by glyph as each divided table is.
 pub fn layer_tables_are_divided()
@@ -14,4 +15,9 @@ pub fn paint_tables_are_divided()
 /// Colour tables of both versions are divided by glyph as each divided table is.
 pub fn colour_tables_are_divided()
     ensures { ColourTablesAreDivided }
+{}
+
+/// What two small tables that fontTools wrote are divided into.
+pub fn worked_colours()
+    ensures { WorkedColoursAre }
 {}

@@ -5,5 +5,5 @@
 mod laws;
 
 pub use crate::laws::{
-    colour_tables_are_divided, layer_tables_are_divided, paint_tables_are_divided,
+    colour_tables_are_divided, layer_tables_are_divided, paint_tables_are_divided, worked_colours,
 };

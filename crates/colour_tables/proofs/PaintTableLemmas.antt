@@ -48,10 +48,10 @@ module _ (n : ℕ) (layers : List (ℕ × List Layer)) (paints boxes : List (ℕ
   at_clips = clips_place layers paints
 
   abbrev at_layers : ℕ
-  at_layers = layers_place layers paints boxes
+  at_layers = layers_place layers paints
 
   abbrev at_paints : ℕ
-  at_paints = paints_place layers paints boxes
+  at_paints = paints_place layers paints
 
   abbrev at_boxes : ℕ
   at_boxes = boxes_place layers paints boxes
@@ -71,14 +71,14 @@ module _ (n : ℕ) (layers : List (ℕ × List Layer)) (paints boxes : List (ℕ
   abbrev more_trees : List ℕ
   more_trees = forest_bytes 0 (forest_of boxes)
 
-  abbrev after_layers : List ℕ
-  after_layers = trees ++ more_trees
+  abbrev after_paints : List ℕ
+  after_paints = clip_list at_clips clips ++ more_trees
 
-  abbrev after_clips : List ℕ
-  after_clips = layer_list at_layers places ++ after_layers
+  abbrev after_layers : List ℕ
+  after_layers = trees ++ after_paints
 
   abbrev after_base : List ℕ
-  after_base = clip_list at_clips clips ++ after_clips
+  after_base = layer_list at_layers places ++ after_layers
 
   base-there : drop at_base t ≡ base_list at_base roots ++ after_base
   base-there =
@@ -94,27 +94,27 @@ module _ (n : ℕ) (layers : List (ℕ × List Layer)) (paints boxes : List (ℕ
       ) in
       ap (λ (k : ℕ). drop k t) (sym size) ∙ drop-append_seam front (paint_lists layers paints boxes)
 
-  clips-there : drop at_clips t ≡ clip_list at_clips clips ++ after_clips
-  clips-there =
+  layers-there : drop at_layers t ≡ layer_list at_layers places ++ after_layers
+  layers-there =
       next t (base_list at_base roots) after_base at_base (list_size 0 6 (length paints)) base-there
       (base-size at_base roots ∙ ap (list_size 0 6) (rooted-long at_paints paints))
 
-  layers-there : drop at_layers t ≡ layer_list at_layers places ++ after_layers
-  layers-there =
-      next t (clip_list at_clips clips) after_clips at_clips (list_size 1 7 (length boxes)) clips-there
-      (clip-list-size at_clips clips ∙ ap (list_size 1 7) (rooted-long at_boxes boxes))
-
-  paints-there : drop at_paints t ≡ trees ++ more_trees
+  paints-there : drop at_paints t ≡ trees ++ after_paints
   paints-there =
       next t (layer_list at_layers places) after_layers at_layers (list_size 0 4 (forest_layers (forest_of paints)))
       layers-there
       (layer-list-size at_layers places ∙ ap (list_size 0 4) (places-long at_paints (forest_of paints)))
 
-  boxes-there : drop at_boxes t ≡ more_trees
-  boxes-there =
-      next t trees more_trees at_paints (forest_size (forest_of paints)) paints-there
+  clips-there : drop at_clips t ≡ clip_list at_clips clips ++ more_trees
+  clips-there =
+      next t trees after_paints at_paints (forest_size (forest_of paints)) paints-there
       (bytes-long n MAX_DEPTH (replicate (length paints) Paint) (forest_of paints) 0
       (all-formed n MAX_DEPTH Paint paints paints_are))
+
+  boxes-there : drop at_boxes t ≡ more_trees
+  boxes-there =
+      next t (clip_list at_clips clips) more_trees at_clips (list_size 1 7 (length boxes)) clips-there
+      (clip-list-size at_clips clips ∙ ap (list_size 1 7) (rooted-long at_boxes boxes))
 
   -- offsets
   base-offset : base_list_offset t ≡ offset_of (length roots) at_base
@@ -161,11 +161,11 @@ module _ (n : ℕ) (layers : List (ℕ × List Layer)) (paints boxes : List (ℕ
   places-are = layers-places places at_layers t after_layers layers-offset (omega arith) places-above layers-there
 
   clips-are : clips_of t ≡ map clip_of clips
-  clips-are = list-clips clips at_clips t after_clips clips-offset (omega arith) clips-above clips-there
+  clips-are = list-clips clips at_clips t more_trees clips-offset (omega arith) clips-above clips-there
 
   paints-read : ReadsIn n t at_paints Paint paints
   paints-read =
-      reads n t (layer_places_of t) (forest_of paints) MAX_DEPTH at_paints 0 (replicate (length paints) Paint) more_trees []
+      reads n t (layer_places_of t) (forest_of paints) MAX_DEPTH at_paints 0 (replicate (length paints) Paint) after_paints []
       (all-formed n MAX_DEPTH Paint paints paints_are) (omega arith) paints-there (places-are ∙ sym (append-nil places))
 
   boxes-read : ReadsIn n t at_boxes ClipBox boxes
@@ -181,8 +181,8 @@ module _ (n : ℕ) (layers : List (ℕ × List Layer)) (paints boxes : List (ℕ
       and_from _ _ (and_from _ _ (and_from _ _ (and_from _ _ (and_from _ _
       (base-list-has roots at_base t after_base base-offset (omega arith) base-there)
       (layer-list-has places at_layers t after_layers layers-offset (omega arith) layers-there))
-      (clip-list-has clips at_clips t after_clips clips-offset (omega arith) clips-there))
-      (clip-format clips at_clips t after_clips clips-offset clips-there))
+      (clip-list-has clips at_clips t more_trees clips-offset (omega arith) clips-there))
+      (clip-format clips at_clips t more_trees clips-offset clips-there))
       (ap (are_roots n t 0) roots-are ∙ roots-good n t 0 at_paints paints in_order paints-read))
       (ap (are_clips n t 0) clips-are ∙ clips-good n t 0 at_boxes boxes boxes_in_order boxes-read)
 

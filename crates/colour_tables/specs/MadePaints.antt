@@ -110,40 +110,39 @@ clip_list at [] = []
 clip_list at (r ∷ rs) = 1 ∷ bytes_of_u32 (length (r ∷ rs)) ++ clip_rows at (r ∷ rs)
 
 -- the places of what stands after the lists of layers, of these layers, paints and clip boxes of glyphs: BaseGlyphList,
--- ClipList, LayerList, paints, and clip boxes
+-- LayerList, paints, ClipList, and clip boxes, near enough to their list for an Offset24
 abbrev pub base_place : List (ℕ × List Layer) → ℕ
 base_place layers = 34 + (6 * length layers + 4 * layer_total layers)
 
+abbrev pub layers_place : List (ℕ × List Layer) → List (ℕ × Tree) → ℕ
+layers_place layers paints = base_place layers + list_size 0 6 (length paints)
+
+abbrev pub paints_place : List (ℕ × List Layer) → List (ℕ × Tree) → ℕ
+paints_place layers paints = layers_place layers paints + list_size 0 4 (forest_layers (forest_of paints))
+
 abbrev pub clips_place : List (ℕ × List Layer) → List (ℕ × Tree) → ℕ
-clips_place layers paints = base_place layers + list_size 0 6 (length paints)
-
-abbrev pub layers_place : List (ℕ × List Layer) → List (ℕ × Tree) → List (ℕ × Tree) → ℕ
-layers_place layers paints boxes = clips_place layers paints + list_size 1 7 (length boxes)
-
-abbrev pub paints_place : List (ℕ × List Layer) → List (ℕ × Tree) → List (ℕ × Tree) → ℕ
-paints_place layers paints boxes =
-    layers_place layers paints boxes + list_size 0 4 (forest_layers (forest_of paints))
+clips_place layers paints = paints_place layers paints + forest_size (forest_of paints)
 
 abbrev pub boxes_place : List (ℕ × List Layer) → List (ℕ × Tree) → List (ℕ × Tree) → ℕ
-boxes_place layers paints boxes = paints_place layers paints boxes + forest_size (forest_of paints)
+boxes_place layers paints boxes = clips_place layers paints + list_size 1 7 (length boxes)
 
 -- the header after numLayerRecords: baseGlyphListOffset, layerListOffset, clipListOffset, varIndexMapOffset,
 -- itemVariationStoreOffset
 abbrev pub paint_header : List (ℕ × List Layer) → List (ℕ × Tree) → List (ℕ × Tree) → List ℕ
 paint_header layers paints boxes =
     bytes_of_u32 (offset_of (length paints) (base_place layers))
-    ++ bytes_of_u32 (offset_of (forest_layers (forest_of paints)) (layers_place layers paints boxes))
+    ++ bytes_of_u32 (offset_of (forest_layers (forest_of paints)) (layers_place layers paints))
     ++ bytes_of_u32 (offset_of (length boxes) (clips_place layers paints))
     ++ bytes_of_u32 0 ++ bytes_of_u32 0
 
 -- what stands after the lists of layers
 abbrev pub paint_lists : List (ℕ × List Layer) → List (ℕ × Tree) → List (ℕ × Tree) → List ℕ
 paint_lists layers paints boxes =
-    base_list (base_place layers) (rooted (paints_place layers paints boxes) paints)
+    base_list (base_place layers) (rooted (paints_place layers paints) paints)
+    ++ (layer_list (layers_place layers paints) (forest_places (paints_place layers paints) (forest_of paints))
+    ++ (forest_bytes 0 (forest_of paints)
     ++ (clip_list (clips_place layers paints) (rooted (boxes_place layers paints boxes) boxes)
-    ++ (layer_list (layers_place layers paints boxes)
-    (forest_places (paints_place layers paints boxes) (forest_of paints))
-    ++ (forest_bytes 0 (forest_of paints) ++ forest_bytes 0 (forest_of boxes))))
+    ++ forest_bytes 0 (forest_of boxes))))
 
 -- the table of these
 abbrev pub table_of_lists : List (ℕ × List Layer) → List (ℕ × Tree) → List (ℕ × Tree) → List ℕ
