@@ -3,14 +3,17 @@ use Rattle.std.proofs.Common.{◌≡◌, ℕ, true, false, List, ap, ◌∙◌, 
 use Rattle.std.proofs.Common.{inl, inr}
 use Rattle.std.proofs.lemmas.Bool.{and_parts, cases_Bool, cond-false, cond-true, eqb-true, false_from_ne_true}
 use Rattle.sfnt_bytes.specs.Number.{u16_at}
+use Rattle.colour_tables.specs.Laws.{IsStored}
+use Rattle.colour_tables.specs.Stores.{Store, no_store, store_of}
 use Rattle.font_theory.specs.Content.{glyph_count}
-use Rattle.colour_parts.specs.ColourTables.{colours, either_parting}
-use Rattle.colour_parts.specs.Laws.{ColourTablesAreDivided}
-use Rattle.colour_parts.specs.LayerTables.{is_layer_table, layer_parting, layer_way}
-use Rattle.colour_parts.specs.PaintTables.{is_paint_table, paint_parting, paint_way}
-use Rattle.colour_parts.specs.Ways.{parting_by}
+use Rattle.colour_parts.specs.ColourTables.{colours, either_parting, varying_colours}
+use Rattle.colour_parts.specs.Laws.{ColourTablesAreDivided, DividesColours}
+use Rattle.colour_parts.specs.LayerTables.{is_layer_table, layer_way}
+use Rattle.colour_parts.specs.PaintTables.{is_paint_table, paint_way, still_way, varying_way}
+use Rattle.font_theory.specs.Parting.{Parting}
+use Rattle.colour_parts.specs.Ways.{IsWay, parting_by}
 use Rattle.colour_parts.proofs.LayerTableLemmas.{layer_tables_are, layer_way_is}
-use Rattle.colour_parts.proofs.PaintTableLemmas.{IsSaid, paint_tables_are, paint_way_is}
+use Rattle.colour_parts.proofs.PaintTableLemmas.{IsNone, IsSaid, paint_tables_are, still_way_is, varying_way_is}
 use Rattle.colour_parts.proofs.SideLemmas.{Side, both-sides}
 use Rattle.colour_parts.proofs.WayLemmas.{frame-is_divided, whole-is_divided}
 
@@ -36,35 +39,51 @@ other_stays n t u same stay is = elim (cases_Bool (is_paint_table n t)) [
   | inr d ↦ ap (is_layer_table n) (stay d) ∙ is
 ]
 
-one_side : Side is_layer_table true colours layer_parting
-unfolding colours either_parting parting_by layer_way
-one_side = record {
+one_side : (other : Parting) → Side is_layer_table true (either_parting is_layer_table (parting_by layer_way) other)
+    (parting_by layer_way)
+unfolding either_parting parting_by layer_way
+one_side other = record {
   frame = λ c t d. cond-true (is_layer_table (glyph_count c) t) _ _ d;
   part = λ c t d g. cond-true (is_layer_table (glyph_count c) t) _ _ d;
   whole = λ c t d parts. cond-true (is_layer_table (glyph_count c) t) _ _ d;
   fits = λ c t d parts. cond-true (is_layer_table (glyph_count c) t) _ _ d;
-  framed = λ c t d. frame-is_divided layer_way (λ _ _. Unit {0}) layer_way_is (glyph_count c) t ∙ d;
+  framed = λ c t d. frame-is_divided layer_way (λ _. Unit {0}) (λ _ _. Unit {0}) layer_way_is (glyph_count c) t ∙ d;
   made = λ c t d parts fit.
-      whole-is_divided layer_way (λ _ _. Unit {0}) layer_way_is (glyph_count c) t parts fit ∙ d;
+      whole-is_divided layer_way (λ _. Unit {0}) (λ _ _. Unit {0}) layer_way_is (glyph_count c) t parts fit ∙ d;
 }
 
-other_side : Side is_layer_table false colours paint_parting
-unfolding colours either_parting parting_by paint_way
-other_side = record {
+-- the other side, whatever is kept of what varies
+other_side : (front : List ℕ → Store) (IsFront : Store → Type 0) → IsWay (paint_way front) IsFront IsSaid
+    → Side is_layer_table false
+    (either_parting is_layer_table (parting_by layer_way) (parting_by (paint_way front))) (parting_by (paint_way front))
+unfolding either_parting parting_by
+other_side front IsFront are = record {
   frame = λ c t d. cond-false (is_layer_table (glyph_count c) t) _ _ d;
   part = λ c t d g. cond-false (is_layer_table (glyph_count c) t) _ _ d;
   whole = λ c t d parts. cond-false (is_layer_table (glyph_count c) t) _ _ d;
   fits = λ c t d parts. cond-false (is_layer_table (glyph_count c) t) _ _ d;
   framed = λ c t d.
       other_stays (glyph_count c) t _
-      (λ e. frame-is_divided paint_way IsSaid paint_way_is (glyph_count c) t ∙ e)
+      (λ e. frame-is_divided (paint_way front) IsFront IsSaid are (glyph_count c) t ∙ e)
       (λ e. cond-false (is_paint_table (glyph_count c) t) _ _ e) d;
   made = λ c t d parts fit.
       other_stays (glyph_count c) t _
-      (λ e. whole-is_divided paint_way IsSaid paint_way_is (glyph_count c) t parts fit ∙ e)
+      (λ e. whole-is_divided (paint_way front) IsFront IsSaid are (glyph_count c) t parts fit ∙ e)
       (λ e. cond-false (is_paint_table (glyph_count c) t) _ _ e) d;
 }
 
+still_colours_are : DividesColours colours
+unfolding colours still_way
+still_colours_are =
+    both-sides is_layer_table colours (parting_by layer_way) (parting_by still_way) (one_side (parting_by still_way))
+    (other_side (λ _. no_store) IsNone still_way_is) layer_tables_are paint_tables_are.0
+
+varying_colours_are : DividesColours varying_colours
+unfolding varying_colours varying_way
+varying_colours_are =
+    both-sides is_layer_table varying_colours (parting_by layer_way) (parting_by varying_way)
+    (one_side (parting_by varying_way)) (other_side store_of IsStored varying_way_is) layer_tables_are
+    paint_tables_are.1
+
 pub colour_tables_are : ColourTablesAreDivided
-colour_tables_are =
-    both-sides is_layer_table colours layer_parting paint_parting one_side other_side layer_tables_are paint_tables_are
+colour_tables_are = (still_colours_are, varying_colours_are)

@@ -86,17 +86,19 @@ room_read : (n : ℕ) (t : List ℕ) → is_layer_table n t ≡ true → layers_
 unfolding is_layer_table
 room_read n t is = (and_parts _ _ is).1
 
-pub layer_way_is : IsWay layer_way (λ _ _. Unit {0})
+pub layer_way_is : IsWay layer_way (λ _. Unit {0}) (λ _ _. Unit {0})
 unfolding layer_way is_layer_table
 layer_way_is = record {
   nothing = no_layers;
   is_nothing = refl;
   none = λ n. refl;
   room_less = room_less;
+  no_front = tt;
+  front_read = λ n t is. tt;
   nothing_said = λ n. tt;
   read = λ n t is g. tt;
   has_room = room_read;
-  made = λ n t x is said room. record {
+  made = λ n w x is said room. record {
     divided = table_is n x room;
     front = refl;
     said = (table_read n x).layers;
@@ -104,4 +106,4 @@ layer_way_is = record {
 }
 
 pub layer_tables_are : LayerTablesAreDivided
-layer_tables_are = way_parts layer_way (λ _ _. Unit {0}) layer_way_is
+layer_tables_are = way_parts layer_way (λ _. Unit {0}) (λ _ _. Unit {0}) layer_way_is

@@ -1,24 +1,25 @@
 -- Colour tables of version 1 are divided.
 use Rattle.std.proofs.Common.{◌≡◌, ℕ, ◌<◌, ◌≤◌, true, false, leb, not, ◌&&◌, ◌||◌, ◌⊎◌, List}
-use Rattle.std.proofs.Common.{length, Option, None, Some, is_some, refl, ap, ◌∙◌, arith, inl, inr}
+use Rattle.std.proofs.Common.{length, Option, None, Some, is_some, [], refl, ap, sym, subst, ◌∙◌, arith, inl, inr}
 use Rattle.std.specs.Option.{option_and_then}
 use Rattle.std.proofs.lemmas.Bool.{and_from, and_parts, both_ways, eq-eqb, le-leb, leb-true}
-use Rattle.sfnt_bytes.specs.Number.{u16_at}
+use Rattle.sfnt_bytes.specs.Number.{u16_at, u32_at}
 use Rattle.colour_tables.specs.Glyphs.{said_of, sum_below}
 use Rattle.colour_tables.specs.LayerLists.{layers_have_room}
-use Rattle.colour_tables.specs.Laws.{HasColoursOf, IsRead}
+use Rattle.colour_tables.specs.Laws.{AreRead, HasColoursOf, IsRead, IsStored}
 use Rattle.colour_tables.specs.MadePaints.{paint_table}
 use Rattle.colour_tables.specs.PaintLists.{Colour, MAX_BYTES, box_at, clip_place, clips_of, colour_at, colour_size}
 use Rattle.colour_tables.specs.PaintLists.{colours_have_room, paint_at, roots_of, tree_in}
 use Rattle.colour_tables.specs.Paints.{Tree}
+use Rattle.colour_tables.specs.Stores.{Store, index_map_offset, no_store, store_of, store_offset}
 use Rattle.colour_tables.specs.declared.layer.Layer.{Layer}
 use Rattle.colour_tables.specs.declared.shape.Kind.{Kind}
 use Rattle.colour_tables.specs.declared.shape.Kind.TheVariants.{ClipBox, Paint}
 use Rattle.colour_tables.proofs.GlyphLemmas.{sum-less, sum-same}
 use Rattle.colour_tables.proofs.PaintTableLemmas.{paints_back}
 use Rattle.colour_parts.specs.Laws.{PaintTablesAreDivided}
-use Rattle.colour_parts.specs.PaintTables.{is_paint_table, no_colour, paint_way}
-use Rattle.colour_parts.specs.Ways.{IsWay}
+use Rattle.colour_parts.specs.PaintTables.{is_paint_table, no_colour, paint_way, still_way, varying_way}
+use Rattle.colour_parts.specs.Ways.{IsWay, Says}
 use Rattle.colour_parts.proofs.LayerTableLemmas.{room_less, room_same}
 use Rattle.colour_parts.proofs.WayLemmas.{way_parts}
 
@@ -85,44 +86,76 @@ colour-read n t g =
     (tree-read n t Paint (said_of g (roots_of t)), tree-read n t ClipBox (clip_place g (clips_of t)))
 
 -- what is read of a table that is written
-colour-same : (n : ℕ) (x : ℕ → Colour) (t : List ℕ) → HasColoursOf n x t → (g : ℕ) → g < n
+colour-same : (n : ℕ) (w : Store) (x : ℕ → Colour) (t : List ℕ) → HasColoursOf n w x t → (g : ℕ) → g < n
     → colour_at n t g ≡ x g
-colour-same n x t has g l =
+colour-same n w x t has g l =
     let layers = has.layers g l in
     let paint = has.paint g l in
     let box = has.box g l in
     λ i. record { layers = layers i; paint = paint i; box = box i }
 
-table_is : (n : ℕ) (x : ℕ → Colour) (t : List ℕ) → HasColoursOf n x t → colours_have_room n x ≡ true
+table_is : (n : ℕ) (w : Store) (x : ℕ → Colour) (t : List ℕ) → HasColoursOf n w x t → colours_have_room n x ≡ true
     → is_paint_table n t ≡ true
 unfolding is_paint_table
-table_is n x t has room =
+table_is n w x t has room =
     and_from _ _ (and_from _ _ (and_from _ _ (and_from _ _ (le-leb 34 (length t) has.header)
     (eq-eqb (u16_at t 0) 1 has.version)) has.layer_lists) has.paint_lists)
-    (colours_same n (colour_at n t) x (colour-same n x t has) ∙ room)
+    (colours_same n (colour_at n t) x (colour-same n w x t has) ∙ room)
 
 room_read : (n : ℕ) (t : List ℕ) → is_paint_table n t ≡ true → colours_have_room n (colour_at n t) ≡ true
 unfolding is_paint_table
 room_read n t is = (and_parts _ _ is).1
 
-pub paint_way_is : IsWay paint_way IsSaid
-unfolding paint_way is_paint_table
-paint_way_is = record {
+-- a table that is written
+made_says : (front : List ℕ → Store) (n : ℕ) (w : Store) (x : ℕ → Colour) → IsStored w
+    → (store_of (paint_table n w x) ≡ w → front (paint_table n w x) ≡ w) → AreRead n x
+    → colours_have_room n x ≡ true → Says (paint_way front) n w x (paint_table n w x)
+made_says front n w x stored own said room =
+    let has = paints_back n w x stored said in
+    record {
+      divided = table_is n w x (paint_table n w x) has room;
+      front = own has.store;
+      said = colour-same n w x (paint_table n w x) has;
+    }
+
+no_store-stored : IsStored no_store
+unfolding store_of index_map_offset store_offset u32_at
+no_store-stored = ([], refl)
+
+abbrev pub IsNone : Store → Type 0
+IsNone w = w ≡ no_store
+
+pub still_way_is : IsWay still_way IsNone IsSaid
+unfolding still_way is_paint_table
+still_way_is = record {
   nothing = λ c t. nothing-of c.layers c.paint c.box t;
   is_nothing = refl;
   none = λ n. refl;
   room_less = colours_less;
+  no_front = refl;
+  front_read = λ n t is. refl;
   nothing_said = λ n. (tt, tt);
   read = λ n t is g. colour-read n t g;
   has_room = room_read;
-  made = λ n t x is said room.
-      let has = paints_back n x said in
-      record {
-        divided = table_is n x (paint_table n x) has room;
-        front = refl;
-        said = colour-same n x (paint_table n x) has;
-      };
+  made = λ n w x is said room.
+      made_says (λ _. no_store) n w x (subst IsStored (sym is) no_store-stored) (λ e. sym is) said room;
+}
+
+pub varying_way_is : IsWay varying_way IsStored IsSaid
+unfolding varying_way is_paint_table
+varying_way_is = record {
+  nothing = λ c t. nothing-of c.layers c.paint c.box t;
+  is_nothing = refl;
+  none = λ n. refl;
+  room_less = colours_less;
+  no_front = no_store-stored;
+  front_read = λ n t is. (t, refl);
+  nothing_said = λ n. (tt, tt);
+  read = λ n t is g. colour-read n t g;
+  has_room = room_read;
+  made = λ n w x is said room. made_says store_of n w x is (λ e. e) said room;
 }
 
 pub paint_tables_are : PaintTablesAreDivided
-paint_tables_are = way_parts paint_way IsSaid paint_way_is
+paint_tables_are =
+    (way_parts still_way IsNone IsSaid still_way_is, way_parts varying_way IsStored IsSaid varying_way_is)

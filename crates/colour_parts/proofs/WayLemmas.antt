@@ -6,27 +6,28 @@ use Rattle.font_theory.specs.Content.{glyph_count}
 use Rattle.font_theory.specs.Parting.{IsParting}
 use Rattle.colour_parts.specs.Ways.{IsWay, Says, Way, alone, parting_by, said_by}
 
-module _ {X : Type 0} (way : Way X) (IsSaid : ℕ → X → Type 0) (are : IsWay way IsSaid) where
+module _ {W X : Type 0} (way : Way W X) (IsFront : W → Type 0) (IsSaid : ℕ → X → Type 0)
+    (are : IsWay way IsFront IsSaid) where
   -- the part of a glyph
   abbrev part_in : ℕ → List ℕ → ℕ → List ℕ
   part_in n t g =
       cond (way.divided n t && not (way.is_nothing (way.said n t g)))
-      (way.made n (way.front t) (alone way g (way.said n t g))) []
+      (way.made n way.no_front (alone way g (way.said n t g))) []
 
   -- the part of what is said
-  abbrev part_by : ℕ → List ℕ → ℕ → X → List ℕ
-  part_by n front g x = cond (not (way.is_nothing x)) (way.made n front (alone way g x)) []
+  abbrev part_by : ℕ → ℕ → X → List ℕ
+  part_by n g x = cond (not (way.is_nothing x)) (way.made n way.no_front (alone way g x)) []
 
   part-divided : (n : ℕ) (t : List ℕ) (g : ℕ) → way.divided n t ≡ true
-      → part_in n t g ≡ part_by n (way.front t) g (way.said n t g)
+      → part_in n t g ≡ part_by n g (way.said n t g)
   part-divided n t g d =
       ap (λ b. cond (b && not (way.is_nothing (way.said n t g)))
-      (way.made n (way.front t) (alone way g (way.said n t g))) []) d
+      (way.made n way.no_front (alone way g (way.said n t g))) []) d
 
   part-whole : (n : ℕ) (t : List ℕ) (g : ℕ) → way.divided n t ≡ false → part_in n t g ≡ []
   part-whole n t g d =
       ap (λ b. cond (b && not (way.is_nothing (way.said n t g)))
-      (way.made n (way.front t) (alone way g (way.said n t g))) []) d
+      (way.made n way.no_front (alone way g (way.said n t g))) []) d
 
   -- what a table without a byte says
   said-none : (n g : ℕ) (b : List ℕ) → b ≡ [] → cond (way.divided n b) (way.said n b g) way.nothing ≡ way.nothing
@@ -62,16 +63,16 @@ module _ {X : Type 0} (way : Way X) (IsSaid : ℕ → X → Type 0) (are : IsWay
       x = way.said n t g
 
       mine : List ℕ
-      mine = way.made n (way.front t) (alone way g (way.said n t g))
+      mine = way.made n way.no_front (alone way g (way.said n t g))
 
       by_test : (b : Bool) → way.is_nothing (way.said n t g) ≡ b
-          → cond (way.divided n (cond (not b) (way.made n (way.front t) (alone way g (way.said n t g))) []))
-          (way.said n (cond (not b) (way.made n (way.front t) (alone way g (way.said n t g))) []) g) way.nothing
+          → cond (way.divided n (cond (not b) (way.made n way.no_front (alone way g (way.said n t g))) []))
+          (way.said n (cond (not b) (way.made n way.no_front (alone way g (way.said n t g))) []) g) way.nothing
           ≡ way.said n t g
       by_test true e = cond-false (way.divided n []) _ _ (are.none n) ∙ sym (are.nothing _ e)
       by_test false e =
-          let says = are.made n t (alone way g (way.said n t g)) d (alone-said n t g d) (alone-room n t g d) in
-          cond-true (way.divided n (way.made n (way.front t) (alone way g (way.said n t g)))) _ _ says.divided
+          let says = are.made n way.no_front (alone way g (way.said n t g)) are.no_front (alone-said n t g d) (alone-room n t g d) in
+          cond-true (way.divided n (way.made n way.no_front (alone way g (way.said n t g)))) _ _ says.divided
           ∙ says.said g l ∙ cond-true (eqb g g) _ _ (eq-eqb g g refl)
 
   -- what parts say is what is read
@@ -87,12 +88,12 @@ module _ {X : Type 0} (way : Way X) (IsSaid : ℕ → X → Type 0) (are : IsWay
 
   none-says : (n : ℕ) (t : List ℕ) → way.divided n t ≡ true
       → Says way n (way.front t) (λ _. way.nothing) (way.made n (way.front t) (λ _. way.nothing))
-  none-says n t d = are.made n t (λ _. way.nothing) d (λ g. are.nothing_said n) (none-room n t d)
+  none-says n t d = are.made n (way.front t) (λ _. way.nothing) (are.front_read n t d) (λ g. are.nothing_said n) (none-room n t d)
 
   whole-says : (n : ℕ) (t : List ℕ) (parts : ℕ → List ℕ) → way.divided n t ≡ true
       → way.room n (said_by way n parts) ≡ true
       → Says way n (way.front t) (said_by way n parts) (way.made n (way.front t) (said_by way n parts))
-  whole-says n t parts d fit = are.made n t (said_by way n parts) d (parts-said n parts) fit
+  whole-says n t parts d fit = are.made n (way.front t) (said_by way n parts) (are.front_read n t d) (parts-said n parts) fit
 
   abbrev pub frame_in : ℕ → List ℕ → List ℕ
   frame_in n t = cond (way.divided n t) (way.made n (way.front t) (λ _. way.nothing)) t
@@ -115,10 +116,10 @@ module _ {X : Type 0} (way : Way X) (IsSaid : ℕ → X → Type 0) (are : IsWay
   ]
 
   -- the frame of a table that was made
-  frame-made : (n : ℕ) (front : List ℕ) (x : ℕ → X) (t : List ℕ) → Says way n front x t
+  frame-made : (n : ℕ) (front : W) (x : ℕ → X) (t : List ℕ) → Says way n front x t
       → frame_in n t ≡ way.made n front (λ _. way.nothing)
   frame-made n front x t says =
-      frame-divided n t says.divided ∙ ap (λ (f : List ℕ). way.made n f (λ _. way.nothing)) says.front
+      frame-divided n t says.divided ∙ ap (λ (f : W). way.made n f (λ _. way.nothing)) says.front
 
   frame_once : (n : ℕ) (t : List ℕ) → frame_in n (frame_in n t) ≡ frame_in n t
   frame_once n t = elim (cases_Bool (way.divided n t)) [
@@ -179,33 +180,24 @@ module _ {X : Type 0} (way : Way X) (IsSaid : ℕ → X → Type 0) (are : IsWay
   ]
 
   -- the part of a glyph in a table that was made
-  part-made : (n : ℕ) (front : List ℕ) (x : ℕ → X) (t : List ℕ) (g : ℕ) → Says way n front x t → g < n
-      → part_in n t g ≡ part_by n front g (x g)
-  part-made n front x t g says l =
-      part-divided n t g says.divided ∙ (λ i. part_by n (says.front i) g (says.said g l i))
-
-  -- the front of a table with this frame
-  front_of : (n : ℕ) (t u : List ℕ) → way.divided n t ≡ true → way.divided n u ≡ true → frame_in n u ≡ frame_in n t
-      → way.front u ≡ way.front t
-  front_of n t u d e same =
-      sym ((none-says n u e).front) ∙ ap way.front (sym (frame-divided n u e) ∙ same ∙ frame-divided n t d)
-      ∙ (none-says n t d).front
+  part-made : (n : ℕ) (front : W) (x : ℕ → X) (t : List ℕ) (g : ℕ) → Says way n front x t → g < n
+      → part_in n t g ≡ part_by n g (x g)
+  part-made n front x t g says l = part-divided n t g says.divided ∙ ap (part_by n g) (says.said g l)
 
   -- what a part says, as a part again
   part_again : (n : ℕ) (t : List ℕ) (g : ℕ) (b : List ℕ) → way.divided n t ≡ true → g < n
       → (b ≡ []) ⊎ ((u : List ℕ) × (frame_in n u ≡ t) × (part_in n u g ≡ b))
-      → part_by n (way.front t) g (cond (way.divided n b) (way.said n b g) way.nothing) ≡ b
-  part_again n t g b d l (inl e) = ap (part_by n (way.front t) g) (said-none n g b e) ∙ by_nothing ∙ sym e
+      → part_by n g (cond (way.divided n b) (way.said n b g) way.nothing) ≡ b
+  part_again n t g b d l (inl e) = ap (part_by n g) (said-none n g b e) ∙ by_nothing ∙ sym e
     where
-      by_nothing : part_by n (way.front t) g way.nothing ≡ []
+      by_nothing : part_by n g way.nothing ≡ []
       by_nothing = cond-false (not (way.is_nothing way.nothing)) _ _ (ap not are.is_nothing)
   part_again n t g b d l (inr w) =
       let u = w.0 in
       let e : way.divided n u ≡ true = sym (frame-is_divided n u) ∙ ap (way.divided n) w.1 ∙ d in
-      let same : way.front u ≡ way.front t = sym ((none-says n u e).front) ∙ ap way.front (sym (frame-divided n u e) ∙ w.1) in
-      ap (part_by n (way.front t) g)
+      ap (part_by n g)
       (ap (λ (p : List ℕ). cond (way.divided n p) (way.said n p g) way.nothing) (sym w.2) ∙ part-says n u g e l)
-      ∙ ap (λ (f : List ℕ). part_by n f g (way.said n u g)) (sym same) ∙ sym (part-divided n u g e) ∙ w.2
+      ∙ sym (part-divided n u g e) ∙ w.2
 
   part_whole : (n : ℕ) (t : List ℕ) (parts : ℕ → List ℕ) (g : ℕ) → fits_in n t parts ≡ true → g < n
       → (parts g ≡ []) ⊎ ((u : List ℕ) × (frame_in n u ≡ t) × (part_in n u g ≡ parts g))

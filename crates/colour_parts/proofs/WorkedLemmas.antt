@@ -12,37 +12,37 @@ use Rattle.colour_tables.specs.PaintLists.{paint_at, roots_of, tree_in}
 use Rattle.colour_tables.specs.Paints.{MAX_DEPTH, u24_at}
 use Rattle.colour_parts.specs.ColourTables.{colours, either_parting}
 use Rattle.colour_parts.specs.LayerTables.{is_layer_table, layer_way}
-use Rattle.colour_parts.specs.PaintTables.{is_paint_table, paint_way}
+use Rattle.colour_parts.specs.PaintTables.{is_paint_table, still_way}
 use Rattle.colour_parts.specs.Ways.{Way, alone, parting_by, said_by}
 use Rattle.colour_parts.specs.WorkedColours.{WorkedColoursAre, layer_colours, no_layers, two_layers}
 use Rattle.colour_parts.specs.WorkedColours.{no_paints, own_paints, paint_colours, two_paints}
 
 -- how tables are divided, by the number of glyphs
-abbrev frame_by : {X : Type 0} → Way X → ℕ → List ℕ → List ℕ
+abbrev frame_by : {W X : Type 0} → Way W X → ℕ → List ℕ → List ℕ
 frame_by way n t = cond (way.divided n t) (way.made n (way.front t) (λ _. way.nothing)) t
 
-abbrev part_by : {X : Type 0} → Way X → ℕ → List ℕ → ℕ → List ℕ
+abbrev part_by : {W X : Type 0} → Way W X → ℕ → List ℕ → ℕ → List ℕ
 part_by way n t g =
     cond (way.divided n t && not (way.is_nothing (way.said n t g)))
-    (way.made n (way.front t) (alone way g (way.said n t g))) []
+    (way.made n way.no_front (alone way g (way.said n t g))) []
 
-abbrev whole_by : {X : Type 0} → Way X → ℕ → List ℕ → (ℕ → List ℕ) → List ℕ
+abbrev whole_by : {W X : Type 0} → Way W X → ℕ → List ℕ → (ℕ → List ℕ) → List ℕ
 whole_by way n t parts = cond (way.divided n t) (way.made n (way.front t) (said_by way n parts)) t
 
-abbrev fits_by : {X : Type 0} → Way X → ℕ → List ℕ → (ℕ → List ℕ) → Bool
+abbrev fits_by : {W X : Type 0} → Way W X → ℕ → List ℕ → (ℕ → List ℕ) → Bool
 fits_by way n t parts = cond (way.divided n t) (way.room n (said_by way n parts)) true
 
 abbrev frame_of : ℕ → List ℕ → List ℕ
-frame_of n t = cond (is_layer_table n t) (frame_by layer_way n t) (frame_by paint_way n t)
+frame_of n t = cond (is_layer_table n t) (frame_by layer_way n t) (frame_by still_way n t)
 
 abbrev part_of : ℕ → List ℕ → ℕ → List ℕ
-part_of n t g = cond (is_layer_table n t) (part_by layer_way n t g) (part_by paint_way n t g)
+part_of n t g = cond (is_layer_table n t) (part_by layer_way n t g) (part_by still_way n t g)
 
 abbrev whole_of : ℕ → List ℕ → (ℕ → List ℕ) → List ℕ
-whole_of n t parts = cond (is_layer_table n t) (whole_by layer_way n t parts) (whole_by paint_way n t parts)
+whole_of n t parts = cond (is_layer_table n t) (whole_by layer_way n t parts) (whole_by still_way n t parts)
 
 abbrev fits_of : ℕ → List ℕ → (ℕ → List ℕ) → Bool
-fits_of n t parts = cond (is_layer_table n t) (fits_by layer_way n t parts) (fits_by paint_way n t parts)
+fits_of n t parts = cond (is_layer_table n t) (fits_by layer_way n t parts) (fits_by still_way n t parts)
 
 -- what is said of one table: its frame, the part of glyph 2, none of glyph 3, and the table of all parts
 abbrev Worked : List ℕ → List ℕ → List ℕ → List ℕ → ℕ → Type 0
@@ -59,11 +59,11 @@ paints_worked : Worked paint_colours no_paints two_paints own_paints 5
 unfolding is_layer_table is_paint_table has_layer_lists base_count bases_offset layers_offset layer_count bases_of
     layers_at layers_of layers_have_room MAX_LAYERS u16_at u32_at u24_at has_paint_lists colours_have_room
     base_list_offset layer_list_offset clip_list_offset roots_of layer_places_of clips_of tree_in MAX_DEPTH MAX_BYTES
-    paint_at box_at paint_way paint_table
+    paint_at box_at still_way paint_table
 paints_worked = (refl, refl, refl, refl, refl)
 
 pub worked_colours : WorkedColoursAre
-unfolding colours either_parting parting_by layer_way paint_way
+unfolding colours either_parting parting_by layer_way still_way
 worked_colours c e =
     let layers : Worked layer_colours no_layers two_layers layer_colours (glyph_count c) =
     subst (Worked layer_colours no_layers two_layers layer_colours) (sym e) layers_worked in

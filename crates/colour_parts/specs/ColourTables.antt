@@ -2,8 +2,9 @@
 use Rattle.std.specs.Prelude.{ℕ, Bool, List, if◌then◌else◌}
 use Rattle.font_theory.specs.Content.{glyph_count}
 use Rattle.font_theory.specs.Parting.{Parting}
-use Rattle.colour_parts.specs.LayerTables.{is_layer_table, layer_parting}
-use Rattle.colour_parts.specs.PaintTables.{paint_parting}
+use Rattle.colour_parts.specs.LayerTables.{is_layer_table, layer_way}
+use Rattle.colour_parts.specs.PaintTables.{still_way, varying_way}
+use Rattle.colour_parts.specs.Ways.{parting_by}
 
 -- some tables are divided in one way, and all others in another
 unfoldable pub either_parting : (ℕ → List ℕ → Bool) → Parting → Parting → Parting
@@ -14,7 +15,11 @@ either_parting test one other = record {
   fits = λ c t parts. if test (glyph_count c) t then one.fits c t parts else other.fits c t parts;
 }
 
--- tables of colours that do not vary: those of version 0 and those of version 1 are divided, and all others are their
--- own frames
+-- colour tables as fonts have them that do not vary: those of version 0 and those of version 1 are divided, and all others
+-- are their own frames
 unfoldable pub colours : Parting
-colours = either_parting is_layer_table layer_parting paint_parting
+colours = either_parting is_layer_table (parting_by layer_way) (parting_by still_way)
+
+-- colour tables as fonts have them that vary: their frames have what varies
+unfoldable pub varying_colours : Parting
+varying_colours = either_parting is_layer_table (parting_by layer_way) (parting_by varying_way)

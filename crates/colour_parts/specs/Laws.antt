@@ -1,18 +1,23 @@
 -- Laws of colour tables as divided tables, this project's own, each of them the contract of a function.
 use Rattle.std.specs.Prelude.{false}
-use Rattle.font_theory.specs.Parting.{IsParting}
-use Rattle.colour_parts.specs.ColourTables.{colours}
-use Rattle.colour_parts.specs.LayerTables.{layer_parting}
-use Rattle.colour_parts.specs.PaintTables.{paint_parting}
+use Rattle.font_theory.specs.Parting.{IsParting, Parting}
+use Rattle.colour_parts.specs.ColourTables.{colours, varying_colours}
+use Rattle.colour_parts.specs.LayerTables.{layer_way}
+use Rattle.colour_parts.specs.PaintTables.{still_way, varying_way}
+use Rattle.colour_parts.specs.Ways.{parting_by}
 
--- tables of version 0 are divided as is asked, and no table of colours is bad
+-- colour tables are divided as is asked, and none is bad
+abbrev pub DividesColours : Parting → Type 0
+DividesColours D = IsParting (λ _ _. false) D
+
+-- of version 0
 abbrev pub LayerTablesAreDivided : Type 0
-LayerTablesAreDivided = IsParting (λ _ _. false) layer_parting
+LayerTablesAreDivided = DividesColours (parting_by layer_way)
 
--- so are tables of version 1
+-- of version 1
 abbrev pub PaintTablesAreDivided : Type 0
-PaintTablesAreDivided = IsParting (λ _ _. false) paint_parting
+PaintTablesAreDivided = DividesColours (parting_by still_way) × DividesColours (parting_by varying_way)
 
--- and both together
+-- and of both
 abbrev pub ColourTablesAreDivided : Type 0
-ColourTablesAreDivided = IsParting (λ _ _. false) colours
+ColourTablesAreDivided = DividesColours colours × DividesColours varying_colours

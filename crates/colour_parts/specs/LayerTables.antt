@@ -1,29 +1,26 @@
 -- Colour tables of version 0 (OpenType 1.9, COLR, Header; BaseGlyph and Layer records).
-use Rattle.std.specs.Prelude.{ℕ, nat_eq, nat_le, not, is_some, Bool, ◌&&◌, List, [], length, Option, None}
+use Rattle.std.specs.Prelude.{ℕ, nat_eq, nat_le, not, is_some, Bool, ◌&&◌, List, length, Option, None}
 use Rattle.sfnt_bytes.specs.Number.{u16_at}
 use Rattle.colour_tables.specs.LayerLists.{has_layer_lists, layers_at, layers_have_room}
 use Rattle.colour_tables.specs.MadeLayers.{layer_table}
 use Rattle.colour_tables.specs.declared.layer.Layer.{Layer}
-use Rattle.font_theory.specs.Parting.{Parting}
-use Rattle.colour_parts.specs.Ways.{Way, parting_by}
+use Rattle.colour_parts.specs.Ways.{Way}
 
 -- a table of version 0 among n glyphs: it is there up to numLayerRecords, its lists are, and the layers have room
 unfoldable pub is_layer_table : ℕ → List ℕ → Bool
 is_layer_table n t =
     nat_le 14 (length t) && nat_eq (u16_at t 0) 0 && has_layer_lists n t && layers_have_room n (layers_at t)
 
--- it says of a glyph which layers it has, if it is a base glyph, and nothing else
-unfoldable pub layer_way : Way (Option (List Layer))
+-- it says of a glyph which layers it has, if it is a base glyph, and nothing else; so tables of version 0 are divided, and
+-- all others are their own frames
+unfoldable pub layer_way : Way (Unit {0}) (Option (List Layer))
 layer_way = record {
   divided = is_layer_table;
-  front = λ _. [];
+  front = λ _. tt;
+  no_front = tt;
   said = λ _ t g. layers_at t g;
   nothing = None;
   is_nothing = λ layers. not (is_some layers);
   room = layers_have_room;
   made = λ n _ layers. layer_table n layers;
 }
-
--- so tables of version 0 are divided, and all others are their own frames
-abbrev pub layer_parting : Parting
-layer_parting = parting_by layer_way

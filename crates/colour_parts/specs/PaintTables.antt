@@ -1,11 +1,11 @@
 -- Colour tables of version 1 (OpenType 1.9, COLR, Header; BaseGlyphList, LayerList and ClipList tables; Paint tables).
-use Rattle.std.specs.Prelude.{ℕ, nat_eq, nat_le, not, is_some, Bool, ◌&&◌, ◌||◌, List, [], length, None}
+use Rattle.std.specs.Prelude.{ℕ, nat_eq, nat_le, not, is_some, Bool, ◌&&◌, ◌||◌, List, length, None}
 use Rattle.sfnt_bytes.specs.Number.{u16_at}
 use Rattle.colour_tables.specs.LayerLists.{has_layer_lists}
 use Rattle.colour_tables.specs.MadePaints.{paint_table}
 use Rattle.colour_tables.specs.PaintLists.{Colour, colour_at, colours_have_room, has_paint_lists}
-use Rattle.font_theory.specs.Parting.{Parting}
-use Rattle.colour_parts.specs.Ways.{Way, parting_by}
+use Rattle.colour_tables.specs.Stores.{Store, no_store, store_of}
+use Rattle.colour_parts.specs.Ways.{Way}
 
 -- nothing is said of a glyph
 abbrev pub no_colour : Colour
@@ -20,18 +20,23 @@ is_paint_table n t =
     nat_le 34 (length t) && nat_eq (u16_at t 0) 1 && has_layer_lists n t && has_paint_lists n t
     && colours_have_room n (colour_at n t)
 
--- it says of a glyph which layers, paint and clip box it has, and nothing else: what varies is left out
-unfoldable pub paint_way : Way Colour
-paint_way = record {
+-- it says of a glyph which layers, paint and clip box it has; `front` is what is kept of what varies
+abbrev pub paint_way : (List ℕ → Store) → Way Store Colour
+paint_way front = record {
   divided = is_paint_table;
-  front = λ _. [];
+  front = front;
+  no_front = no_store;
   said = colour_at;
   nothing = no_colour;
   is_nothing = λ c. not (has_colour c);
   room = colours_have_room;
-  made = λ n _ x. paint_table n x;
+  made = paint_table;
 }
 
--- so tables of version 1 are divided, and all others are their own frames
-abbrev pub paint_parting : Parting
-paint_parting = parting_by paint_way
+-- so tables of version 1 are divided, and all others are their own frames: without what varies
+unfoldable pub still_way : Way Store Colour
+still_way = paint_way (λ _. no_store)
+
+-- with it
+unfoldable pub varying_way : Way Store Colour
+varying_way = paint_way store_of

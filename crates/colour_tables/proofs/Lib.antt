@@ -7,3 +7,4 @@ pub mod ForestLemmas
 pub mod FormedLemmas
 pub mod PaintReadLemmas
 pub mod PaintTableLemmas
+pub mod StoreLemmas

@@ -7,6 +7,7 @@ use Rattle.colour_tables.specs.MadeLayers.{layer_header, layer_lists}
 use Rattle.colour_tables.specs.MadePaints.{paint_table}
 use Rattle.colour_tables.specs.PaintLists.{Colour, box_at, has_paint_lists, paint_at, tree_in}
 use Rattle.colour_tables.specs.Paints.{Tree}
+use Rattle.colour_tables.specs.Stores.{Store, store_of}
 use Rattle.colour_tables.specs.declared.layer.Layer.{Layer}
 use Rattle.colour_tables.specs.declared.shape.Kind.{Kind}
 use Rattle.colour_tables.specs.declared.shape.Kind.TheVariants.{ClipBox, Paint}
@@ -31,8 +32,12 @@ IsRead n k tree = IfSome tree (λ x. (t : List ℕ) × (at : ℕ) × (tree_in n 
 abbrev pub AreRead : ℕ → (ℕ → Colour) → Type 0
 AreRead n x = (g : ℕ) → IsRead n Paint (x g).paint × IsRead n ClipBox (x g).box
 
--- what is said of n glyphs is what is read of a table of version 1
-pub record HasColoursOf (n : ℕ) (x : ℕ → Colour) (t : List ℕ) : Type 0 where
+-- what varies is read of some table
+abbrev pub IsStored : Store → Type 0
+IsStored w = (t : List ℕ) × (store_of t ≡ w)
+
+-- what varies, and what is said of n glyphs, is what is read of a table of version 1
+pub record HasColoursOf (n : ℕ) (w : Store) (x : ℕ → Colour) (t : List ℕ) : Type 0 where
   pub version : u16_at t 0 ≡ 1
   pub header : 34 ≤ length t
   pub layer_lists : has_layer_lists n t ≡ true
@@ -40,7 +45,9 @@ pub record HasColoursOf (n : ℕ) (x : ℕ → Colour) (t : List ℕ) : Type 0 w
   pub layers : (g : ℕ) → g < n → layers_at t g ≡ (x g).layers
   pub paint : (g : ℕ) → g < n → paint_at n t g ≡ (x g).paint
   pub box : (g : ℕ) → g < n → box_at n t g ≡ (x g).box
+  pub store : store_of t ≡ w
 
 -- what is written of glyphs is read back
 abbrev pub PaintsAreReadBack : Type 0
-PaintsAreReadBack = (n : ℕ) (x : ℕ → Colour) → AreRead n x → HasColoursOf n x (paint_table n x)
+PaintsAreReadBack =
+    (n : ℕ) (w : Store) (x : ℕ → Colour) → IsStored w → AreRead n x → HasColoursOf n w x (paint_table n w x)

@@ -4,4 +4,5 @@ pub mod LayerLists
 pub mod MadePaints
 pub mod PaintLists
 pub mod Paints
+pub mod Stores
 pub mod MadeLayers

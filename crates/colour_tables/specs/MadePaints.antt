@@ -6,6 +6,7 @@ use Rattle.colour_tables.specs.MadeLayers.{bytes_of_u16, bytes_of_u24, bytes_of_
 use Rattle.colour_tables.specs.MadeLayers.{layer_total, offset_of}
 use Rattle.colour_tables.specs.PaintLists.{Colour, forest_size, tree_size}
 use Rattle.colour_tables.specs.Paints.{Forest, Bare, With, Tree, shape_size, with_tree}
+use Rattle.colour_tables.specs.Stores.{Store}
 use Rattle.colour_tables.specs.declared.layer.Layer.{Layer}
 use Rattle.colour_tables.specs.declared.shape.Shape.{Shape}
 use Rattle.colour_tables.specs.declared.shape.Shape.TheVariants.{Layers, One, Plain, Two}
@@ -126,31 +127,40 @@ clips_place layers paints = paints_place layers paints + forest_size (forest_of 
 abbrev pub boxes_place : List (ℕ × List Layer) → List (ℕ × Tree) → List (ℕ × Tree) → ℕ
 boxes_place layers paints boxes = clips_place layers paints + list_size 1 7 (length boxes)
 
+-- then what varies: the map, and the store
+abbrev pub map_place : List (ℕ × List Layer) → List (ℕ × Tree) → List (ℕ × Tree) → ℕ
+map_place layers paints boxes = boxes_place layers paints boxes + forest_size (forest_of boxes)
+
+abbrev pub store_place : List (ℕ × List Layer) → List (ℕ × Tree) → List (ℕ × Tree) → Store → ℕ
+store_place layers paints boxes w = map_place layers paints boxes + length w.index_map
+
 -- the header after numLayerRecords: baseGlyphListOffset, layerListOffset, clipListOffset, varIndexMapOffset,
 -- itemVariationStoreOffset
-abbrev pub paint_header : List (ℕ × List Layer) → List (ℕ × Tree) → List (ℕ × Tree) → List ℕ
-paint_header layers paints boxes =
+abbrev pub paint_header : List (ℕ × List Layer) → List (ℕ × Tree) → List (ℕ × Tree) → Store → List ℕ
+paint_header layers paints boxes w =
     bytes_of_u32 (offset_of (length paints) (base_place layers))
     ++ bytes_of_u32 (offset_of (forest_layers (forest_of paints)) (layers_place layers paints))
     ++ bytes_of_u32 (offset_of (length boxes) (clips_place layers paints))
-    ++ bytes_of_u32 0 ++ bytes_of_u32 0
+    ++ bytes_of_u32 (offset_of (length w.index_map) (map_place layers paints boxes))
+    ++ bytes_of_u32 (offset_of (length w.store) (store_place layers paints boxes w))
 
 -- what stands after the lists of layers
-abbrev pub paint_lists : List (ℕ × List Layer) → List (ℕ × Tree) → List (ℕ × Tree) → List ℕ
-paint_lists layers paints boxes =
+abbrev pub paint_lists : List (ℕ × List Layer) → List (ℕ × Tree) → List (ℕ × Tree) → Store → List ℕ
+paint_lists layers paints boxes w =
     base_list (base_place layers) (rooted (paints_place layers paints) paints)
     ++ (layer_list (layers_place layers paints) (forest_places (paints_place layers paints) (forest_of paints))
     ++ (forest_bytes 0 (forest_of paints)
     ++ (clip_list (clips_place layers paints) (rooted (boxes_place layers paints boxes) boxes)
-    ++ forest_bytes 0 (forest_of boxes))))
+    ++ (forest_bytes 0 (forest_of boxes)
+    ++ (w.index_map ++ w.store)))))
 
 -- the table of these
-abbrev pub table_of_lists : List (ℕ × List Layer) → List (ℕ × Tree) → List (ℕ × Tree) → List ℕ
-table_of_lists layers paints boxes =
-    layer_header 1 34 layers ++ paint_header layers paints boxes ++ layer_lists layers
-    ++ paint_lists layers paints boxes
+abbrev pub table_of_lists : List (ℕ × List Layer) → List (ℕ × Tree) → List (ℕ × Tree) → Store → List ℕ
+table_of_lists layers paints boxes w =
+    layer_header 1 34 layers ++ paint_header layers paints boxes w ++ layer_lists layers
+    ++ paint_lists layers paints boxes w
 
--- the table of version 1 of what is said of n glyphs
-unfoldable pub paint_table : ℕ → (ℕ → Colour) → List ℕ
-paint_table n x =
-    table_of_lists (listed (λ g. (x g).layers) 0 n) (listed (λ g. (x g).paint) 0 n) (listed (λ g. (x g).box) 0 n)
+-- the table of version 1 of what is said of n glyphs, and of what varies
+unfoldable pub paint_table : ℕ → Store → (ℕ → Colour) → List ℕ
+paint_table n w x =
+    table_of_lists (listed (λ g. (x g).layers) 0 n) (listed (λ g. (x g).paint) 0 n) (listed (λ g. (x g).box) 0 n) w
