@@ -2,5 +2,6 @@ pub mod ColourTableLemmas
 pub mod LayerTableLemmas
 pub mod PaintTableLemmas
 pub mod SideLemmas
+pub mod TellingLemmas
 pub mod WayLemmas
 pub mod WorkedLemmas

@@ -1,9 +1,10 @@
 -- A table that is divided in a way is divided as is asked.
-use Rattle.std.proofs.Common.{◌≡◌, ℕ, ◌<◌, Bool, true, false, cond, eqb, not, ◌&&◌, ◌⊎◌, List, [], refl, ap, sym, ◌∙◌}
+use Rattle.std.proofs.Common.{subst, ◌≡◌, ℕ, ◌<◌, Bool, true, false, cond, eqb, not, ◌&&◌, ◌⊎◌, List, [], refl, ap, sym, ◌∙◌}
 use Rattle.std.proofs.Common.{inl, inr}
 use Rattle.std.proofs.lemmas.Bool.{cases_Bool, cases_eq, cond-false, cond-true, eq-eqb, ne_eqb}
 use Rattle.font_theory.specs.Content.{glyph_count}
 use Rattle.font_theory.specs.Parting.{IsParting}
+use Rattle.colour_parts.specs.Telling.{CutSays, PartTells}
 use Rattle.colour_parts.specs.Ways.{IsWay, Says, Way, alone, parting_by, said_by}
 
 module _ {W X : Type 0} (way : Way W X) (IsFront : W → Type 0) (IsSaid : ℕ → X → Type 0)
@@ -229,3 +230,55 @@ module _ {W X : Type 0} (way : Way W X) (IsFront : W → Type 0) (IsSaid : ℕ �
     frame_is = λ c frame parts h fit. frame_whole (glyph_count c) frame parts fit;
     part_is = λ c frame parts g h fit low part. part_whole (glyph_count c) frame parts g fit low part;
   }
+
+  -- equal parts say the same
+  pub part_tells : PartTells way
+  unfolding parting_by
+  part_tells c t u g d e l same =
+      sym (part-says (glyph_count c) t g d l)
+      ∙ ap (λ (b : List ℕ). cond (way.divided (glyph_count c) b) (way.said (glyph_count c) b g) way.nothing) same
+      ∙ part-says (glyph_count c) u g e l
+
+  -- what a table says of kept glyphs
+  abbrev kept_by : ℕ → List ℕ → (ℕ → Bool) → ℕ → List ℕ
+  kept_by n t keeps g = cond (keeps g) (part_in n t g) []
+
+  kept-said : (n : ℕ) (t : List ℕ) (keeps : ℕ → Bool) (g : ℕ) → way.divided n t ≡ true → g < n
+      → said_by way n (kept_by n t keeps) g ≡ cond (keeps g) (way.said n t g) way.nothing
+  kept-said n t keeps g d l = by_test (keeps g)
+    where
+      by_test : (b : Bool) → cond (way.divided n (cond b (part_in n t g) []))
+          (way.said n (cond b (part_in n t g) []) g) way.nothing ≡ cond b (way.said n t g) way.nothing
+      by_test true = part-says n t g d l
+      by_test false = said-none n g [] refl
+
+  kept-room : (n : ℕ) (t : List ℕ) (keeps : ℕ → Bool) → way.divided n t ≡ true
+      → way.room n (said_by way n (kept_by n t keeps)) ≡ true
+  kept-room n t keeps d =
+      are.room_less n (way.said n t) (said_by way n (kept_by n t keeps)) (λ g l. by_test g l (keeps g) refl)
+      (are.has_room n t d)
+    where
+      by_test : (g : ℕ) → g < n → (b : Bool) → keeps g ≡ b
+          → (said_by way n (kept_by n t keeps) g ≡ way.nothing) ⊎ (said_by way n (kept_by n t keeps) g ≡ way.said n t g)
+      by_test g l true e = inr (kept-said n t keeps g d l ∙ cond-true (keeps g) _ _ e)
+      by_test g l false e = inl (kept-said n t keeps g d l ∙ cond-false (keeps g) _ _ e)
+
+  cut_in : (n : ℕ) (t : List ℕ) (keeps : ℕ → Bool) → way.divided n t ≡ true
+      → Says way n (way.front t) (λ g. cond (keeps g) (way.said n t g) way.nothing)
+      (whole_in n (frame_in n t) (kept_by n t keeps))
+  cut_in n t keeps d =
+      let parts = kept_by n t keeps in
+      let here = frame-is_divided n t ∙ d in
+      let own = ap way.front (frame-divided n t d) ∙ (none-says n t d).front in
+      let says = whole-says n (frame_in n t) parts here (kept-room n t keeps d) in
+      subst (Says way n (way.front t) (λ g. cond (keeps g) (way.said n t g) way.nothing))
+      (sym (cond-true (way.divided n (frame_in n t)) (way.made n (way.front (frame_in n t)) (said_by way n parts)) _ here))
+      (record {
+        divided = says.divided;
+        front = says.front ∙ own;
+        said = λ g l. says.said g l ∙ kept-said n t keeps g d l;
+      })
+
+  pub cut_says : CutSays way
+  unfolding parting_by
+  cut_says c t keeps d = cut_in (glyph_count c) t keeps d

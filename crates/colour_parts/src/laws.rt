@@ -1,5 +1,6 @@
 //! Laws of colour tables as divided tables: the contract of each function is what it says.
 ghost use Rattle.colour_parts.specs.Laws.{ColourTablesAreDivided, LayerTablesAreDivided, PaintTablesAreDivided};
+ghost use Rattle.colour_parts.specs.Telling.{CutsSay, PartsOfOneTableFit, PartsTell};
 ghost use Rattle.colour_parts.specs.WorkedColours.{WorkedColoursAre};
 
 /// A colour table of version 0 is divided by glyph as each divided table is.
@@ -15,6 +16,21 @@ pub fn paint_tables_are_divided()
 /// Colour tables of both versions are divided by glyph as each divided table is.
 pub fn colour_tables_are_divided()
     ensures { ColourTablesAreDivided }
+{}
+
+/// A cut says of the glyphs that it keeps what the font says, and nothing of others.
+pub fn cuts_say()
+    ensures { CutsSay }
+{}
+
+/// Two tables say the same of a glyph if they have one part of it.
+pub fn parts_tell()
+    ensures { PartsTell }
+{}
+
+/// Parts of one table fit its frame.
+pub fn parts_of_one_table_fit()
+    ensures { PartsOfOneTableFit }
 {}
 
 /// What two small tables that fontTools wrote are divided into.

@@ -1,0 +1,42 @@
+-- What frames and parts of colour tables tell, this project's own, each of them the contract of a function.
+use Rattle.std.specs.Prelude.{◌≡◌, ℕ, ◌<◌, Bool, true, ◌⊎◌, List, [], if◌then◌else◌}
+use Rattle.font_theory.specs.Content.{glyph_count}
+use Rattle.font_theory.specs.Parting.{Parting, Tables}
+use Rattle.colour_parts.specs.ColourTables.{colours, varying_colours}
+use Rattle.colour_parts.specs.LayerTables.{layer_way}
+use Rattle.colour_parts.specs.PaintTables.{still_way, varying_way}
+use Rattle.colour_parts.specs.Ways.{Says, Way, parting_by}
+
+-- the parts of a table for the glyphs that are kept
+abbrev pub kept_parts : Parting → Tables → List ℕ → (ℕ → Bool) → ℕ → List ℕ
+kept_parts D c t keeps g = if keeps g then D.part c t g else []
+
+-- the table of the frame of a table and of the parts of kept glyphs says of these what the table says, and nothing of
+-- others; so the table of all parts says all that the table says
+abbrev pub CutSays : {W X : Type 0} → Way W X → Type 0
+CutSays way =
+    (c : Tables) (t : List ℕ) (keeps : ℕ → Bool) → way.divided (glyph_count c) t ≡ true
+    → Says way (glyph_count c) (way.front t) (λ g. if keeps g then way.said (glyph_count c) t g else way.nothing)
+    ((parting_by way).whole c ((parting_by way).frame c t) (kept_parts (parting_by way) c t keeps))
+
+abbrev pub CutsSay : Type 0
+CutsSay = CutSays layer_way × CutSays still_way × CutSays varying_way
+
+-- two tables say the same of a glyph if they have one part of it
+abbrev pub PartTells : {W X : Type 0} → Way W X → Type 0
+PartTells way =
+    (c : Tables) (t u : List ℕ) (g : ℕ) → way.divided (glyph_count c) t ≡ true → way.divided (glyph_count c) u ≡ true
+    → g < glyph_count c → (parting_by way).part c t g ≡ (parting_by way).part c u g
+    → way.said (glyph_count c) t g ≡ way.said (glyph_count c) u g
+
+abbrev pub PartsTell : Type 0
+PartsTell = PartTells layer_way × PartTells still_way × PartTells varying_way
+
+-- parts of one table fit its frame
+abbrev pub PartsFit : Parting → Type 0
+PartsFit D =
+    (c : Tables) (t : List ℕ) (parts : ℕ → List ℕ) → ((g : ℕ) → (parts g ≡ []) ⊎ (parts g ≡ D.part c t g))
+    → D.fits c (D.frame c t) parts ≡ true
+
+abbrev pub PartsOfOneTableFit : Type 0
+PartsOfOneTableFit = PartsFit colours × PartsFit varying_colours
