@@ -82,7 +82,7 @@ table_is n x t =
     and_from _ _ (and_from _ _ (and_from _ _ (table_long n x) (table_version n x)) has.lists)
     (room_same n (layers_at (layer_table n x)) x has.layers ∙ t)
 
-room_read : (n : ℕ) (t : List ℕ) → is_layer_table n t ≡ true → layers_have_room n (layers_at t) ≡ true
+pub room_read : (n : ℕ) (t : List ℕ) → is_layer_table n t ≡ true → layers_have_room n (layers_at t) ≡ true
 unfolding is_layer_table
 room_read n t is = (and_parts _ _ is).1
 

@@ -1,5 +1,6 @@
 pub mod ColourTableLemmas
 pub mod LayerTableLemmas
+pub mod NameLemmas
 pub mod PaintTableLemmas
 pub mod SideLemmas
 pub mod TellingLemmas

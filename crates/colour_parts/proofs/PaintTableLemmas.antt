@@ -80,7 +80,7 @@ tree-read n t k (Some at) = by_tree (tree_in n t k at) refl
     by_tree None e = tt
     by_tree (Some tree) e = (t, at, e)
 
-colour-read : (n : ℕ) (t : List ℕ) (g : ℕ) → IsSaid n (colour_at n t g)
+pub colour-read : (n : ℕ) (t : List ℕ) (g : ℕ) → IsSaid n (colour_at n t g)
 unfolding paint_at box_at
 colour-read n t g =
     (tree-read n t Paint (said_of g (roots_of t)), tree-read n t ClipBox (clip_place g (clips_of t)))
@@ -102,9 +102,9 @@ table_is n w x t has room =
     (eq-eqb (u16_at t 0) 1 has.version)) has.layer_lists) has.paint_lists)
     (colours_same n (colour_at n t) x (colour-same n w x t has) ∙ room)
 
-room_read : (n : ℕ) (t : List ℕ) → is_paint_table n t ≡ true → colours_have_room n (colour_at n t) ≡ true
+pub colours_read : (n : ℕ) (t : List ℕ) → is_paint_table n t ≡ true → colours_have_room n (colour_at n t) ≡ true
 unfolding is_paint_table
-room_read n t is = (and_parts _ _ is).1
+colours_read n t is = (and_parts _ _ is).1
 
 -- a table that is written
 made_says : (front : List ℕ → Store) (n : ℕ) (w : Store) (x : ℕ → Colour) → IsStored w
@@ -136,7 +136,7 @@ still_way_is = record {
   front_read = λ n t is. refl;
   nothing_said = λ n. (tt, tt);
   read = λ n t is g. colour-read n t g;
-  has_room = room_read;
+  has_room = colours_read;
   made = λ n w x is said room.
       made_says (λ _. no_store) n w x (subst IsStored (sym is) no_store-stored) (λ e. sym is) said room;
 }
@@ -152,7 +152,7 @@ varying_way_is = record {
   front_read = λ n t is. (t, refl);
   nothing_said = λ n. (tt, tt);
   read = λ n t is g. colour-read n t g;
-  has_room = room_read;
+  has_room = colours_read;
   made = λ n w x is said room. made_says store_of n w x is (λ e. e) said room;
 }
 

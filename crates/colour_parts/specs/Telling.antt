@@ -1,10 +1,14 @@
 -- What frames and parts of colour tables tell, this project's own, each of them the contract of a function.
 use Rattle.std.specs.Prelude.{◌≡◌, ℕ, ◌<◌, Bool, true, ◌⊎◌, List, [], if◌then◌else◌}
+use Rattle.colour_tables.specs.Glyphs.{AreBelow}
+use Rattle.colour_tables.specs.LayerLists.{layers_at}
+use Rattle.colour_tables.specs.Links.{colour_names, layer_names}
+use Rattle.colour_tables.specs.PaintLists.{colour_at}
 use Rattle.font_theory.specs.Content.{glyph_count}
 use Rattle.font_theory.specs.Parting.{Parting, Tables}
 use Rattle.colour_parts.specs.ColourTables.{colours, varying_colours}
-use Rattle.colour_parts.specs.LayerTables.{layer_way}
-use Rattle.colour_parts.specs.PaintTables.{still_way, varying_way}
+use Rattle.colour_parts.specs.LayerTables.{is_layer_table, layer_way}
+use Rattle.colour_parts.specs.PaintTables.{is_paint_table, still_way, varying_way}
 use Rattle.colour_parts.specs.Ways.{Says, Way, parting_by}
 
 -- the parts of a table for the glyphs that are kept
@@ -40,3 +44,11 @@ PartsFit D =
 
 abbrev pub PartsOfOneTableFit : Type 0
 PartsOfOneTableFit = PartsFit colours × PartsFit varying_colours
+
+-- the glyphs that colours name are glyphs of the font
+pub record NamesGlyphs (n : ℕ) (t : List ℕ) : Type 0 where
+  pub layers : is_layer_table n t ≡ true → (g : ℕ) → g < n → AreBelow n (layer_names (layers_at t g))
+  pub colours : is_paint_table n t ≡ true → (g : ℕ) → g < n → AreBelow n (colour_names (colour_at n t g))
+
+abbrev pub NamesAreGlyphs : Type 0
+NamesAreGlyphs = (n : ℕ) (t : List ℕ) → NamesGlyphs n t

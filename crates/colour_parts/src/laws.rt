@@ -1,6 +1,6 @@
 //! Laws of colour tables as divided tables: the contract of each function is what it says.
 ghost use Rattle.colour_parts.specs.Laws.{ColourTablesAreDivided, LayerTablesAreDivided, PaintTablesAreDivided};
-ghost use Rattle.colour_parts.specs.Telling.{CutsSay, PartsOfOneTableFit, PartsTell};
+ghost use Rattle.colour_parts.specs.Telling.{CutsSay, NamesAreGlyphs, PartsOfOneTableFit, PartsTell};
 ghost use Rattle.colour_parts.specs.WorkedColours.{WorkedColoursAre};
 
 /// A colour table of version 0 is divided by glyph as each divided table is.
@@ -31,6 +31,11 @@ pub fn parts_tell()
 /// Parts of one table fit its frame.
 pub fn parts_of_one_table_fit()
     ensures { PartsOfOneTableFit }
+{}
+
+/// The glyphs that colours name are glyphs of the font.
+pub fn names_are_glyphs()
+    ensures { NamesAreGlyphs }
 {}
 
 /// What two small tables that fontTools wrote are divided into.

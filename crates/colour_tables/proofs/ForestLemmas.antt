@@ -12,12 +12,13 @@ use Rattle.colour_tables.specs.MadePaints.{own_count, own_places, shape_bytes, s
 use Rattle.colour_tables.specs.PaintLists.{forest_size}
 use Rattle.colour_tables.specs.Paints.{Bare, Forest, Tree, With, all_trees, layer_links, links_of, names_glyph}
 use Rattle.colour_tables.specs.Paints.{place_from, rest_of, shape_of, shape_size, tree_at, tree_of, u24_at, with_tree}
+use Rattle.colour_tables.specs.Paints.{kinds_below}
 use Rattle.colour_tables.specs.declared.shape.Kind.{Kind}
 use Rattle.colour_tables.specs.declared.shape.Kind.TheVariants.{Paint}
 use Rattle.colour_tables.specs.declared.shape.Shape.{Shape}
 use Rattle.colour_tables.specs.declared.shape.Shape.TheVariants.{Layers, One, Plain, Two}
 use Rattle.colour_tables.proofs.LayerReadLemmas.{long}
-use Rattle.colour_tables.proofs.ShapeLemmas.{first-is, first_offset, kinds_below, layers-placed, place-some, placed}
+use Rattle.colour_tables.proofs.ShapeLemmas.{first-is, first_offset, layers-placed, place-some, placed}
 use Rattle.colour_tables.proofs.ShapeLemmas.{rest-is, rest_count, second_offset, shape-long}
 
 -- what is known of a shape that is read as a kind

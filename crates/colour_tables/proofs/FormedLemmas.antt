@@ -10,12 +10,13 @@ use Rattle.colour_tables.specs.MadePaints.{forest_of, forest_places, shape_bytes
 use Rattle.colour_tables.specs.PaintLists.{forest_size}
 use Rattle.colour_tables.specs.Paints.{Bare, Forest, Tree, With, all_trees, layer_links, links_of, names_glyph}
 use Rattle.colour_tables.specs.Paints.{rest_of, shape_of, shape_size, tree_at, tree_of, with_tree}
+use Rattle.colour_tables.specs.Paints.{kinds_below}
 use Rattle.colour_tables.specs.declared.shape.Kind.{Kind}
 use Rattle.colour_tables.specs.declared.shape.Kind.TheVariants.{ClipBox, Paint}
 use Rattle.colour_tables.specs.declared.shape.Shape.{Shape}
 use Rattle.colour_tables.specs.declared.shape.Shape.TheVariants.{Layers, One, Plain, Two}
 use Rattle.colour_tables.proofs.ForestLemmas.{Formed, IsTable}
-use Rattle.colour_tables.proofs.ShapeLemmas.{kinds_below, rest-long, shape-again}
+use Rattle.colour_tables.proofs.ShapeLemmas.{rest-long, shape-again}
 
 -- a tree is of a kind, and nested so deep at most
 abbrev pub IsFormed : ℕ → ℕ → Kind → Tree → Type 0

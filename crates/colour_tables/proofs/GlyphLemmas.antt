@@ -1,8 +1,8 @@
 -- What is said of the glyphs below a number.
-use Rattle.std.proofs.Common.{◌≡◌, ℕ, zero, suc, ◌+◌, ◌<◌, ◌≤◌, Bool, true, false, cond, eqb, ◌&&◌, List, []}
+use Rattle.std.proofs.Common.{◌++◌, ◌≡◌, ℕ, zero, suc, ◌+◌, ◌<◌, ◌≤◌, Bool, true, false, cond, eqb, ◌&&◌, List, []}
 use Rattle.std.proofs.Common.{◌∷◌, Option, None, Some, refl, ap, ◌∙◌, arith, inl, inr}
 use Rattle.std.proofs.lemmas.Bool.{and_from, and_parts, cases_eq, eq-eqb, ne_eqb}
-use Rattle.colour_tables.specs.Glyphs.{each_below, listed, said_of, sum_below, with_glyph}
+use Rattle.colour_tables.specs.Glyphs.{AreBelow, each_below, listed, said_of, sum_below, with_glyph}
 
 -- equal tests and numbers
 pub each-same : (f h : ℕ → Bool) (n : ℕ) → ((g : ℕ) → g < n → f g ≡ h g) → each_below f n ≡ each_below h n
@@ -40,6 +40,11 @@ pub sum-less : (f h : ℕ → ℕ) (n : ℕ) → ((g : ℕ) → g < n → h g �
 sum-less f h zero e = omega arith
 sum-less f h (suc n) e =
     omega (arith, sum-less f h n (λ g l. e g (omega (arith, l))), e n (omega arith))
+
+-- numbers below another
+pub below-append : (n : ℕ) (xs ys : List ℕ) → AreBelow n xs → AreBelow n ys → AreBelow n (xs ++ ys)
+below-append n [] ys a b = b
+below-append n (x ∷ xs) ys a b = (a.0, below-append n xs ys a.1 b)
 
 -- what a list says of a glyph
 module _ {X : Type 0} where

@@ -8,3 +8,4 @@ pub mod FormedLemmas
 pub mod PaintReadLemmas
 pub mod PaintTableLemmas
 pub mod StoreLemmas
+pub mod LinkLemmas

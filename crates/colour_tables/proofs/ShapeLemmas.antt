@@ -25,13 +25,6 @@ rest_count (One more k) = more
 rest_count (Two more k l) = more
 rest_count Layers = 1
 
--- what its offsets lead to
-abbrev pub kinds_below : Shape → List ℕ → List Kind
-kinds_below (Plain more) rest = []
-kinds_below (One more k) rest = k ∷ []
-kinds_below (Two more k l) rest = k ∷ l ∷ []
-kinds_below Layers rest = replicate (get_or rest 0 0) Paint
-
 pub shape-long : (s : Shape) (first : ℕ) (rest : List ℕ) (size index : ℕ) → length rest ≡ rest_count s
     → length (shape_bytes s first rest size index) ≡ shape_size s
 shape-long (Plain more) first rest size index e = omega (arith, e)

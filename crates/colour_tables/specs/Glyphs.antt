@@ -1,5 +1,5 @@
 -- What is said of the glyphs below a number, this project's own.
-use Rattle.std.specs.Prelude.{ℕ, zero, suc, ◌+◌, nat_eq, Bool, true, ◌&&◌, List, [], ◌∷◌, if◌then◌else◌}
+use Rattle.std.specs.Prelude.{ℕ, zero, suc, ◌+◌, ◌<◌, nat_eq, Bool, true, ◌&&◌, List, [], ◌∷◌, if◌then◌else◌}
 use Rattle.std.specs.Prelude.{Option, None, Some}
 
 -- a test holds for each glyph below a number
@@ -26,3 +26,8 @@ listed said g (suc k) = with_glyph g (said g) (listed said (g + 1) k)
 abbrev pub said_of : {X : Type 0} → ℕ → List (ℕ × X) → Option X
 said_of g [] = None
 said_of g (e ∷ es) = if nat_eq e.0 g then Some e.1 else said_of g es
+
+-- numbers are below another
+abbrev pub AreBelow : ℕ → List ℕ → Type 0
+AreBelow n [] = Unit {0}
+AreBelow n (x ∷ xs) = (x < n) × AreBelow n xs

@@ -1,6 +1,7 @@
 pub mod Glyphs
 pub mod Laws
 pub mod LayerLists
+pub mod Links
 pub mod MadePaints
 pub mod PaintLists
 pub mod Paints

@@ -1,7 +1,7 @@
 -- What the offsets of a colour table of version 1 lead to, as trees (OpenType 1.9, COLR, Paint tables; ColorLine,
 -- VarColorLine; Affine2x3, VarAffine2x3; ClipBox).
 use Rattle.std.specs.Prelude.{ℕ, zero, suc, ◌+◌, ◌-◌, ◌*◌, nat_eq, nat_le, nat_lt, not, Bool, true, ◌&&◌, ◌||◌}
-use Rattle.std.specs.Prelude.{List, [], ◌∷◌, drop, length, slice_get, slice_index, take, if◌then◌else◌}
+use Rattle.std.specs.Prelude.{List, [], ◌∷◌, drop, length, replicate, slice_get, slice_index, take, if◌then◌else◌}
 use Rattle.std.specs.Prelude.{Option, None, Some}
 use Rattle.std.specs.Option.{option_and_then, option_map}
 use Rattle.sfnt_bytes.specs.Number.{u16_at, u32_at}
@@ -75,6 +75,13 @@ rest_of (Plain more) b = take more (drop 1 b)
 rest_of (One more k) b = take more (drop 4 b)
 rest_of (Two more k l) b = take more (drop 4 b)
 rest_of Layers b = take 1 (drop 1 b)
+
+-- what its offsets lead to, by its bytes but for the first and for offsets
+abbrev pub kinds_below : Shape → List ℕ → List Kind
+kinds_below (Plain more) rest = []
+kinds_below (One more k) rest = k ∷ []
+kinds_below (Two more k l) rest = k ∷ l ∷ []
+kinds_below Layers rest = replicate (slice_index rest 0) Paint
 
 -- the place that an offset leads to from another; 0, which is no place, for the offset 0
 abbrev pub place_from : ℕ → ℕ → ℕ
