@@ -5,4 +5,5 @@ pub mod PaintTableLemmas
 pub mod SideLemmas
 pub mod TellingLemmas
 pub mod WayLemmas
+pub mod WholeByteLemmas
 pub mod WorkedLemmas

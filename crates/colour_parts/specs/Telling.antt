@@ -1,5 +1,5 @@
 -- What frames and parts of colour tables tell, this project's own, each of them the contract of a function.
-use Rattle.std.specs.Prelude.{◌≡◌, ℕ, ◌<◌, Bool, true, ◌⊎◌, List, [], if◌then◌else◌}
+use Rattle.std.specs.Prelude.{◌≡◌, ℕ, ◌<◌, Bool, true, ◌⊎◌, List, [], length, if◌then◌else◌}
 use Rattle.colour_tables.specs.Glyphs.{AreBelow}
 use Rattle.colour_tables.specs.LayerLists.{layers_at}
 use Rattle.colour_tables.specs.Links.{colour_names, layer_names}
@@ -52,3 +52,13 @@ pub record NamesGlyphs (n : ℕ) (t : List ℕ) : Type 0 where
 
 abbrev pub NamesAreGlyphs : Type 0
 NamesAreGlyphs = (n : ℕ) (t : List ℕ) → NamesGlyphs n t
+
+-- the table of a frame and of parts that are bytes is bytes, where the parts fit: no number is too large for its field
+abbrev pub WholeIsBytes : Parting → Type 0
+WholeIsBytes D =
+    (c : Tables) (t : List ℕ) (parts : ℕ → List ℕ) → glyph_count c < 65536 → AreBelow 256 t
+    → length t < 2147483648 → ((g : ℕ) → AreBelow 256 (parts g)) → D.fits c t parts ≡ true
+    → AreBelow 256 (D.whole c t parts)
+
+abbrev pub WholesAreBytes : Type 0
+WholesAreBytes = WholeIsBytes colours × WholeIsBytes varying_colours

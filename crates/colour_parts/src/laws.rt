@@ -1,6 +1,6 @@
 //! Laws of colour tables as divided tables: the contract of each function is what it says.
 ghost use Rattle.colour_parts.specs.Laws.{ColourTablesAreDivided, LayerTablesAreDivided, PaintTablesAreDivided};
-ghost use Rattle.colour_parts.specs.Telling.{CutsSay, NamesAreGlyphs, PartsOfOneTableFit, PartsTell};
+ghost use Rattle.colour_parts.specs.Telling.{CutsSay, NamesAreGlyphs, PartsOfOneTableFit, PartsTell, WholesAreBytes};
 ghost use Rattle.colour_parts.specs.WorkedColours.{WorkedColoursAre};
 
 /// A colour table of version 0 is divided by glyph as each divided table is.
@@ -36,6 +36,11 @@ pub fn parts_of_one_table_fit()
 /// The glyphs that colours name are glyphs of the font.
 pub fn names_are_glyphs()
     ensures { NamesAreGlyphs }
+{}
+
+/// The table of parts that are bytes, and fit, is bytes: no number of it is too large for its field.
+pub fn wholes_are_bytes()
+    ensures { WholesAreBytes }
 {}
 
 /// What two small tables that fontTools wrote are divided into.

@@ -1,5 +1,5 @@
 -- What is known of a tree that is read.
-use Rattle.std.proofs.Common.{◌≡◌, ℕ, zero, suc, ◌+◌, ◌≤◌, Bool, true, false, cond, eqb, leb, not, ◌&&◌}
+use Rattle.std.proofs.Common.{arith, ◌≡◌, ℕ, zero, suc, ◌+◌, ◌≤◌, Bool, true, false, cond, eqb, leb, not, ◌&&◌}
 use Rattle.std.proofs.Common.{List, [], ◌∷◌, ◌++◌, length, get_or, map, take, drop, replicate, Option, None, Some}
 use Rattle.std.proofs.Common.{refl, ap, sym, subst, ◌∙◌, inl, inr}
 use Rattle.std.specs.Option.{option_map}
@@ -50,7 +50,7 @@ links-kinds layers Layers at b =
     layer-kinds layers (u32_at b 2) (get_or b 1 0) ∙ ap (λ (m : ℕ). replicate m Paint) (sym (second-byte b))
 
 -- what is mapped to something
-map-some : {A B P : Type 0} (f : A → B) (o : Option A) (y : B) → option_map f o ≡ Some y
+pub map-some : {A B P : Type 0} (f : A → B) (o : Option A) (y : B) → option_map f o ≡ Some y
     → ((x : A) → o ≡ Some x → f x ≡ y → P) → P
 map-some f None y e k = absurd (none-some y e)
 map-some f (Some x) y e k = k x refl (same_Some (f x) y e)
@@ -114,14 +114,29 @@ module _ (n : ℕ) (t layers : List ℕ) where
       (λ s is more. shape-formed d at k s b tree (tree-formed d) is more)
 
 -- a clip box is of a plain shape
-box-plain : (b : List ℕ) (s : Shape) → shape_of ClipBox b ≡ Some s → (more : ℕ) × (s ≡ Plain more)
+box-plain : (b : List ℕ) (s : Shape) → shape_of ClipBox b ≡ Some s → (more : ℕ) × (s ≡ Plain more) × (more ≤ 12)
 box-plain b s e = by_tests (eqb (get_or b 0 0) 1) (eqb (get_or b 0 0) 2) e
   where
     by_tests : (one two : Bool) → cond one (Some (Plain 8)) (cond two (Some (Plain 12)) None) ≡ Some s
-        → (more : ℕ) × (s ≡ Plain more)
-    by_tests true two e = (8, sym (same_Some (Plain 8) s e))
-    by_tests false true e = (12, sym (same_Some (Plain 12) s e))
+        → (more : ℕ) × (s ≡ Plain more) × (more ≤ 12)
+    by_tests true two e = (8, sym (same_Some (Plain 8) s e), omega arith)
+    by_tests false true e = (12, sym (same_Some (Plain 12) s e), omega arith)
     by_tests false false e = absurd (none-some s e)
+
+-- and is small
+plain-size : (n d more : ℕ) (below : Forest) → Formed n d [] below → 1 + more + forest_size below ≡ 1 + more
+plain-size n d more Bare e = omega arith
+plain-size n d more (With s f r b a) e = absurd e
+
+pub box-size : (n d : ℕ) (tree : Tree) → IsFormed n d ClipBox tree
+    → shape_size tree.shape + forest_size tree.below ≤ 13
+box-size n zero tree e = absurd e
+box-size n (suc d) tree e =
+    let plain =
+    box-plain (shape_bytes tree.shape tree.first tree.rest 0 0 ++ []) tree.shape (e.0.shape 0 0 []) in
+    subst (λ (s : Shape). Formed n d (kinds_below s tree.rest) tree.below
+    → shape_size s + forest_size tree.below ≤ 13) (sym plain.1)
+    (λ under. omega (arith, plain-size n d plain.0 tree.below under, plain.2)) e.1
 
 -- and has no layers
 plain-places : (n d at more : ℕ) (first : ℕ) (rest : List ℕ) (below after : Forest)

@@ -9,3 +9,6 @@ pub mod PaintReadLemmas
 pub mod PaintTableLemmas
 pub mod StoreLemmas
 pub mod LinkLemmas
+pub mod ByteLemmas
+pub mod TreeByteLemmas
+pub mod TableByteLemmas

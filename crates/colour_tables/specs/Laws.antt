@@ -1,11 +1,11 @@
 -- Laws of colour tables, this project's own, each of them the contract of a function.
 use Rattle.std.specs.Prelude.{◌≡◌, ℕ, ◌+◌, ◌<◌, ◌≤◌, true, List, ◌++◌, length, Option, Some, IfSome}
 use Rattle.sfnt_bytes.specs.Number.{u16_at}
-use Rattle.colour_tables.specs.Glyphs.{listed}
-use Rattle.colour_tables.specs.LayerLists.{has_layer_lists, layers_at}
-use Rattle.colour_tables.specs.MadeLayers.{layer_header, layer_lists}
+use Rattle.colour_tables.specs.Glyphs.{AreBelow, listed}
+use Rattle.colour_tables.specs.LayerLists.{has_layer_lists, layers_at, layers_have_room}
+use Rattle.colour_tables.specs.MadeLayers.{layer_header, layer_lists, layer_table}
 use Rattle.colour_tables.specs.MadePaints.{paint_table}
-use Rattle.colour_tables.specs.PaintLists.{Colour, box_at, has_paint_lists, paint_at, tree_in}
+use Rattle.colour_tables.specs.PaintLists.{Colour, box_at, colour_at, colours_have_room, has_paint_lists, paint_at, tree_in}
 use Rattle.colour_tables.specs.Paints.{Tree}
 use Rattle.colour_tables.specs.Stores.{Store, store_of}
 use Rattle.colour_tables.specs.declared.layer.Layer.{Layer}
@@ -51,3 +51,28 @@ pub record HasColoursOf (n : ℕ) (w : Store) (x : ℕ → Colour) (t : List ℕ
 abbrev pub PaintsAreReadBack : Type 0
 PaintsAreReadBack =
     (n : ℕ) (w : Store) (x : ℕ → Colour) → IsStored w → AreRead n x → HasColoursOf n w x (paint_table n w x)
+
+-- what is said of a glyph is what a table of bytes says of it
+abbrev pub LayersOfBytes : ℕ → Option (List Layer) → Type 0
+LayersOfBytes g x = (t : List ℕ) × AreBelow 256 t × (layers_at t g ≡ x)
+
+abbrev pub ColourOfBytes : ℕ → ℕ → Colour → Type 0
+ColourOfBytes n g x = (t : List ℕ) × AreBelow 256 t × (colour_at n t g ≡ x)
+
+-- what varies is bytes, and the map is no longer than half of what an offset leads over
+pub record StoreOfBytes (w : Store) : Type 0 where
+  pub index_map : AreBelow 256 w.index_map
+  pub store : AreBelow 256 w.store
+  pub size : length w.index_map < 2147483648
+
+-- what has room is written as bytes: no number of the table is too large for its field
+pub record TablesAreBytes (n : ℕ) : Type 0 where
+  pub layers :
+      (x : ℕ → Option (List Layer)) → ((g : ℕ) → LayersOfBytes g (x g)) → layers_have_room n x ≡ true
+      → AreBelow 256 (layer_table n x)
+  pub colours :
+      (w : Store) (x : ℕ → Colour) → StoreOfBytes w → ((g : ℕ) → ColourOfBytes n g (x g))
+      → colours_have_room n x ≡ true → AreBelow 256 (paint_table n w x)
+
+abbrev pub WrittenAreBytes : Type 0
+WrittenAreBytes = (n : ℕ) → n < 65536 → TablesAreBytes n
