@@ -55,7 +55,8 @@ one_side other = record {
 -- the other side, whatever is kept of what varies
 other_side : (front : List ℕ → Store) (IsFront : Store → Type 0) → IsWay (paint_way front) IsFront IsSaid
     → Side is_layer_table false
-    (either_parting is_layer_table (parting_by layer_way) (parting_by (paint_way front))) (parting_by (paint_way front))
+    (either_parting is_layer_table (parting_by layer_way) (parting_by (paint_way front)))
+    (parting_by (paint_way front))
 unfolding either_parting parting_by
 other_side front IsFront are = record {
   frame = λ c t d. cond-false (is_layer_table (glyph_count c) t) _ _ d;

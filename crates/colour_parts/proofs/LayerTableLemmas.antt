@@ -50,7 +50,8 @@ pub room_same : (n : ℕ) (x y : ℕ → Layers) → ((g : ℕ) → g < n → x 
     → layers_have_room n x ≡ layers_have_room n y
 unfolding layers_have_room
 room_same n x y same =
-    let tests = each-same (λ g. are_layers n (x g)) (λ g. are_layers n (y g)) n (λ g l. ap (are_layers n) (same g l)) in
+    let tests =
+    each-same (λ g. are_layers n (x g)) (λ g. are_layers n (y g)) n (λ g l. ap (are_layers n) (same g l)) in
     let sums = sum-same (λ g. depth (x g)) (λ g. depth (y g)) n (λ g l. ap depth (same g l)) in
     λ i. tests i && leb (sums i) MAX_LAYERS
 

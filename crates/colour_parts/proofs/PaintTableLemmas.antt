@@ -41,7 +41,8 @@ colours_less : (n : ℕ) (x y : ℕ → Colour) → ((g : ℕ) → g < n → (y 
     → colours_have_room n x ≡ true → colours_have_room n y ≡ true
 unfolding colours_have_room
 colours_less n x y less t =
-    let both = and_parts (layers_have_room n (λ g. (x g).layers)) (leb (sum_below (λ g. colour_size (x g)) n) MAX_BYTES) t in
+    let both =
+    and_parts (layers_have_room n (λ g. (x g).layers)) (leb (sum_below (λ g. colour_size (x g)) n) MAX_BYTES) t in
     let most = leb-true _ _ both.1 in
     and_from _ _ (room_less n (λ g. (x g).layers) (λ g. (y g).layers) (λ g l. fewer (x g) (y g) (less g l)) both.0)
     (le-leb _ _ (omega (

@@ -1,5 +1,6 @@
 -- A table that is divided in a way is divided as is asked.
-use Rattle.std.proofs.Common.{subst, ◌≡◌, ℕ, ◌<◌, Bool, true, false, cond, eqb, not, ◌&&◌, ◌⊎◌, List, [], refl, ap, sym, ◌∙◌}
+use Rattle.std.proofs.Common.{subst, ◌≡◌, ℕ, ◌<◌, Bool, true, false, cond, eqb, not, ◌&&◌, ◌⊎◌, List, [], refl, ap}
+use Rattle.std.proofs.Common.{sym, ◌∙◌}
 use Rattle.std.proofs.Common.{inl, inr}
 use Rattle.std.proofs.lemmas.Bool.{cases_Bool, cases_eq, cond-false, cond-true, eq-eqb, ne_eqb}
 use Rattle.font_theory.specs.Content.{glyph_count}
@@ -38,7 +39,8 @@ module _ {W X : Type 0} (way : Way W X) (IsFront : W → Type 0) (IsSaid : ℕ �
   alone-room : (n : ℕ) (t : List ℕ) (g : ℕ) → way.divided n t ≡ true
       → way.room n (alone way g (way.said n t g)) ≡ true
   alone-room n t g d =
-      are.room_less n (way.said n t) (alone way g (way.said n t g)) (λ h l. by_case h (cases_eq h g)) (are.has_room n t d)
+      are.room_less n (way.said n t) (alone way g (way.said n t g)) (λ h l. by_case h (cases_eq h g))
+      (are.has_room n t d)
     where
       by_case : (h : ℕ) → (h ≡ g) ⊎ (h ≡ g → ⊥)
           → (alone way g (way.said n t g) h ≡ way.nothing) ⊎ (alone way g (way.said n t g) h ≡ way.said n t h)
@@ -72,7 +74,9 @@ module _ {W X : Type 0} (way : Way W X) (IsFront : W → Type 0) (IsSaid : ℕ �
           ≡ way.said n t g
       by_test true e = cond-false (way.divided n []) _ _ (are.none n) ∙ sym (are.nothing _ e)
       by_test false e =
-          let says = are.made n way.no_front (alone way g (way.said n t g)) are.no_front (alone-said n t g d) (alone-room n t g d) in
+          let says =
+          are.made n way.no_front (alone way g (way.said n t g)) are.no_front (alone-said n t g d)
+          (alone-room n t g d) in
           cond-true (way.divided n (way.made n way.no_front (alone way g (way.said n t g)))) _ _ says.divided
           ∙ says.said g l ∙ cond-true (eqb g g) _ _ (eq-eqb g g refl)
 
@@ -89,12 +93,14 @@ module _ {W X : Type 0} (way : Way W X) (IsFront : W → Type 0) (IsSaid : ℕ �
 
   none-says : (n : ℕ) (t : List ℕ) → way.divided n t ≡ true
       → Says way n (way.front t) (λ _. way.nothing) (way.made n (way.front t) (λ _. way.nothing))
-  none-says n t d = are.made n (way.front t) (λ _. way.nothing) (are.front_read n t d) (λ g. are.nothing_said n) (none-room n t d)
+  none-says n t d =
+      are.made n (way.front t) (λ _. way.nothing) (are.front_read n t d) (λ g. are.nothing_said n) (none-room n t d)
 
   whole-says : (n : ℕ) (t : List ℕ) (parts : ℕ → List ℕ) → way.divided n t ≡ true
       → way.room n (said_by way n parts) ≡ true
       → Says way n (way.front t) (said_by way n parts) (way.made n (way.front t) (said_by way n parts))
-  whole-says n t parts d fit = are.made n (way.front t) (said_by way n parts) (are.front_read n t d) (parts-said n parts) fit
+  whole-says n t parts d fit =
+      are.made n (way.front t) (said_by way n parts) (are.front_read n t d) (parts-said n parts) fit
 
   abbrev pub frame_in : ℕ → List ℕ → List ℕ
   frame_in n t = cond (way.divided n t) (way.made n (way.front t) (λ _. way.nothing)) t
@@ -259,7 +265,8 @@ module _ {W X : Type 0} (way : Way W X) (IsFront : W → Type 0) (IsSaid : ℕ �
       (are.has_room n t d)
     where
       by_test : (g : ℕ) → g < n → (b : Bool) → keeps g ≡ b
-          → (said_by way n (kept_by n t keeps) g ≡ way.nothing) ⊎ (said_by way n (kept_by n t keeps) g ≡ way.said n t g)
+          → (said_by way n (kept_by n t keeps) g ≡ way.nothing)
+          ⊎ (said_by way n (kept_by n t keeps) g ≡ way.said n t g)
       by_test g l true e = inr (kept-said n t keeps g d l ∙ cond-true (keeps g) _ _ e)
       by_test g l false e = inl (kept-said n t keeps g d l ∙ cond-false (keeps g) _ _ e)
 
@@ -272,7 +279,8 @@ module _ {W X : Type 0} (way : Way W X) (IsFront : W → Type 0) (IsSaid : ℕ �
       let own = ap way.front (frame-divided n t d) ∙ (none-says n t d).front in
       let says = whole-says n (frame_in n t) parts here (kept-room n t keeps d) in
       subst (Says way n (way.front t) (λ g. cond (keeps g) (way.said n t g) way.nothing))
-      (sym (cond-true (way.divided n (frame_in n t)) (way.made n (way.front (frame_in n t)) (said_by way n parts)) _ here))
+      (sym (cond-true (way.divided n (frame_in n t)) (way.made n (way.front (frame_in n t)) (said_by way n parts)) _
+      here))
       (record {
         divided = says.divided;
         front = says.front ∙ own;

@@ -15,8 +15,8 @@ either_parting test one other = record {
   fits = λ c t parts. if test (glyph_count c) t then one.fits c t parts else other.fits c t parts;
 }
 
--- colour tables as fonts have them that do not vary: those of version 0 and those of version 1 are divided, and all others
--- are their own frames
+-- colour tables as fonts have them that do not vary: those of version 0 and those of version 1 are divided, and all
+-- others are their own frames
 unfoldable pub colours : Parting
 colours = either_parting is_layer_table (parting_by layer_way) (parting_by still_way)
 

@@ -11,8 +11,8 @@ unfoldable pub is_layer_table : ℕ → List ℕ → Bool
 is_layer_table n t =
     nat_le 14 (length t) && nat_eq (u16_at t 0) 0 && has_layer_lists n t && layers_have_room n (layers_at t)
 
--- it says of a glyph which layers it has, if it is a base glyph, and nothing else; so tables of version 0 are divided, and
--- all others are their own frames
+-- it says of a glyph which layers it has, if it is a base glyph, and nothing else; so tables of version 0 are divided,
+-- and all others are their own frames
 unfoldable pub layer_way : Way (Unit {0}) (Option (List Layer))
 layer_way = record {
   divided = is_layer_table;

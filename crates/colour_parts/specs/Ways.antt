@@ -26,7 +26,8 @@ said_by way n parts g = if way.divided n (parts g) then way.said n (parts g) g e
 -- how tables are divided in this way. A table that is not divided is its own frame, and no glyph has a part
 unfoldable pub parting_by : {W X : Type 0} → Way W X → Parting
 parting_by way = record {
-  frame = λ c t. if way.divided (glyph_count c) t then way.made (glyph_count c) (way.front t) (λ _. way.nothing) else t;
+  frame = λ c t.
+      if way.divided (glyph_count c) t then way.made (glyph_count c) (way.front t) (λ _. way.nothing) else t;
   part = λ c t g.
       if way.divided (glyph_count c) t && not (way.is_nothing (way.said (glyph_count c) t g))
       then way.made (glyph_count c) way.no_front (alone way g (way.said (glyph_count c) t g)) else [];

@@ -3,7 +3,7 @@
 use Rattle.std.specs.Prelude.{◌≡◌, ℕ, true, List, [], ◌∷◌}
 use Rattle.font_theory.specs.Content.{glyph_count}
 use Rattle.font_theory.specs.Parting.{Tables}
-use Rattle.colour_parts.specs.ColourTables.{colours}
+use Rattle.colour_parts.specs.ColourTables.{colours, varying_colours}
 
 -- a table of version 0: glyph 1 has a layer, and glyph 2 has two
 abbrev pub layer_colours : List ℕ
@@ -129,6 +129,53 @@ own_paints =
     ∷ 1 ∷ 0 ∷ 0 ∷ 0 ∷ 0 ∷ 0 ∷ 10 ∷ 0 ∷ 20  -- ClipBox: format, xMin to yMax
     ∷ []
 
+-- a table of version 1 of a font that varies: glyph 1 has a colour that fades
+abbrev pub varying_paints : List ℕ
+varying_paints =
+    0 ∷ 1  -- version
+    ∷ 0 ∷ 0 ∷ 0 ∷ 0 ∷ 0 ∷ 0 ∷ 0 ∷ 0 ∷ 0 ∷ 0 ∷ 0 ∷ 0  -- no BaseGlyph and no Layer records
+    ∷ 0 ∷ 0 ∷ 0 ∷ 34  -- baseGlyphListOffset
+    ∷ 0 ∷ 0 ∷ 0 ∷ 0 ∷ 0 ∷ 0 ∷ 0 ∷ 0  -- layerListOffset, clipListOffset
+    ∷ 0 ∷ 0 ∷ 0 ∷ 53  -- varIndexMapOffset
+    ∷ 0 ∷ 0 ∷ 0 ∷ 58  -- itemVariationStoreOffset
+    ∷ 0 ∷ 0 ∷ 0 ∷ 1  -- numBaseGlyphPaintRecords
+    ∷ 0 ∷ 1 ∷ 0 ∷ 0 ∷ 0 ∷ 10  -- glyph 1, paintOffset
+    ∷ 3 ∷ 0 ∷ 1 ∷ 64 ∷ 0 ∷ 0 ∷ 0 ∷ 0 ∷ 0  -- PaintVarSolid: paletteIndex, alpha, varIndexBase
+    ∷ 0 ∷ 0 ∷ 0 ∷ 1 ∷ 0  -- DeltaSetIndexMap: format, entryFormat, mapCount, an entry
+    ∷ 0 ∷ 1 ∷ 0 ∷ 0 ∷ 0 ∷ 12 ∷ 0 ∷ 1 ∷ 0 ∷ 0 ∷ 0 ∷ 22  -- ItemVariationStore: format, offsets, itemVariationDataCount
+    ∷ 0 ∷ 1 ∷ 0 ∷ 1 ∷ 0 ∷ 0 ∷ 64 ∷ 0 ∷ 64 ∷ 0  -- VariationRegionList: axisCount, regionCount, a region
+    ∷ 0 ∷ 1 ∷ 0 ∷ 1 ∷ 0 ∷ 1 ∷ 0 ∷ 0 ∷ 224 ∷ 0  -- ItemVariationData: itemCount, wordDeltaCount, regionIndexCount, an index, deltas
+    ∷ []
+
+-- one that says nothing, and of which the same varies
+abbrev pub no_varying_paints : List ℕ
+no_varying_paints =
+    0 ∷ 1  -- version
+    ∷ 0 ∷ 0 ∷ 0 ∷ 0 ∷ 0 ∷ 0 ∷ 0 ∷ 0 ∷ 0 ∷ 0 ∷ 0 ∷ 0  -- no BaseGlyph and no Layer records
+    ∷ 0 ∷ 0 ∷ 0 ∷ 0  -- baseGlyphListOffset
+    ∷ 0 ∷ 0 ∷ 0 ∷ 0 ∷ 0 ∷ 0 ∷ 0 ∷ 0  -- layerListOffset, clipListOffset
+    ∷ 0 ∷ 0 ∷ 0 ∷ 34  -- varIndexMapOffset
+    ∷ 0 ∷ 0 ∷ 0 ∷ 39  -- itemVariationStoreOffset
+    ∷ 0 ∷ 0 ∷ 0 ∷ 1 ∷ 0  -- DeltaSetIndexMap: format, entryFormat, mapCount, an entry
+    ∷ 0 ∷ 1 ∷ 0 ∷ 0 ∷ 0 ∷ 12 ∷ 0 ∷ 1 ∷ 0 ∷ 0 ∷ 0 ∷ 22  -- ItemVariationStore: format, offsets, itemVariationDataCount
+    ∷ 0 ∷ 1 ∷ 0 ∷ 1 ∷ 0 ∷ 0 ∷ 64 ∷ 0 ∷ 64 ∷ 0  -- VariationRegionList: axisCount, regionCount, a region
+    ∷ 0 ∷ 1 ∷ 0 ∷ 1 ∷ 0 ∷ 1 ∷ 0 ∷ 0 ∷ 224 ∷ 0  -- ItemVariationData: itemCount, wordDeltaCount, regionIndexCount, an index, deltas
+    ∷ []
+
+-- one of glyph 1 alone, of which nothing varies
+abbrev pub one_paint : List ℕ
+one_paint =
+    0 ∷ 1  -- version
+    ∷ 0 ∷ 0 ∷ 0 ∷ 0 ∷ 0 ∷ 0 ∷ 0 ∷ 0 ∷ 0 ∷ 0 ∷ 0 ∷ 0  -- no BaseGlyph and no Layer records
+    ∷ 0 ∷ 0 ∷ 0 ∷ 34  -- baseGlyphListOffset
+    ∷ 0 ∷ 0 ∷ 0 ∷ 0 ∷ 0 ∷ 0 ∷ 0 ∷ 0  -- layerListOffset, clipListOffset
+    ∷ 0 ∷ 0 ∷ 0 ∷ 0  -- varIndexMapOffset
+    ∷ 0 ∷ 0 ∷ 0 ∷ 0  -- itemVariationStoreOffset
+    ∷ 0 ∷ 0 ∷ 0 ∷ 1  -- numBaseGlyphPaintRecords
+    ∷ 0 ∷ 1 ∷ 0 ∷ 0 ∷ 0 ∷ 10  -- glyph 1, paintOffset
+    ∷ 3 ∷ 0 ∷ 1 ∷ 64 ∷ 0 ∷ 0 ∷ 0 ∷ 0 ∷ 0  -- PaintVarSolid: paletteIndex, alpha, varIndexBase
+    ∷ []
+
 -- what they come to
 pub record WorkedColours (c : Tables) : Type 0 where
   pub layer_frame : colours.frame c layer_colours ≡ no_layers
@@ -141,6 +188,12 @@ pub record WorkedColours (c : Tables) : Type 0 where
   pub paint_none : colours.part c paint_colours 3 ≡ []
   pub paint_fit : colours.fits c no_paints (colours.part c paint_colours) ≡ true
   pub paint_whole : colours.whole c no_paints (colours.part c paint_colours) ≡ own_paints
+  pub varying_frame : varying_colours.frame c varying_paints ≡ no_varying_paints
+  pub varying_part : varying_colours.part c varying_paints 1 ≡ one_paint
+  pub varying_fit : varying_colours.fits c no_varying_paints (varying_colours.part c varying_paints) ≡ true
+  pub varying_whole :
+      varying_colours.whole c no_varying_paints (varying_colours.part c varying_paints) ≡ varying_paints
+  pub still_frame : colours.frame c varying_paints ≡ no_paints
 
 abbrev pub WorkedColoursAre : Type 0
 WorkedColoursAre = (c : Tables) → glyph_count c ≡ 5 → WorkedColours c

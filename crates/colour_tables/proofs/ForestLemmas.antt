@@ -116,7 +116,8 @@ two-links n (suc d) at more k l first rest z (With s f r b (With t g q c a)) e h
     let size = shape_size s + forest_size b in
     let one : List ℕ = (7 + more) / 65536 ∷ (7 + more) / 256 % 256 ∷ (7 + more) % 256 ∷ [] in
     let two : List ℕ = (7 + more + size) / 65536 ∷ (7 + more + size) / 256 % 256 ∷ (7 + more + size) % 256 ∷ [] in
-    let near = ap (place_from at) (first_offset first (7 + more) (rest ++ two ++ z)) ∙ place-some at (7 + more) (omega arith) in
+    let near =
+    ap (place_from at) (first_offset first (7 + more) (rest ++ two ++ z)) ∙ place-some at (7 + more) (omega arith) in
     let far =
     ap (place_from at)
     (second_offset first (get_or one 0 0) (get_or one 1 0) (get_or one 2 0) more (7 + more + size) rest z h)
@@ -171,7 +172,11 @@ module _ (n : ℕ) (t layers : List ℕ) where
       let there : not (eqb at 0) ≡ true = ap not (ne_eqb at 0 (λ e. omega (arith, e, some))) in
       let room : leb (shape_size s) (length b) ≡ true =
       le-leb (shape_size s) (length b)
-      (omega (arith, length-append (shape_bytes s first rest size index) z, shape-long s first rest size index is.size)) in
+      (omega (
+        arith,
+        length-append (shape_bytes s first rest size index) z,
+        shape-long s first rest size index is.size,
+      )) in
       let names : names_glyph n k (get_or b 0 0) (rest_of s b) ≡ true =
       (λ i. names_glyph n k (same_first i) (same_rest i)) ∙ is.named in
       cond-true (not (eqb at 0) && leb (shape_size s) (length b) && names_glyph n k (get_or b 0 0) (rest_of s b)) _ _
@@ -186,7 +191,8 @@ module _ (n : ℕ) (t layers : List ℕ) where
       let b = shape_bytes s first rest size index ++ z in
       ap (λ (b : List ℕ). option_and_then (λ s. tree_of n k at b (all_trees (read d) (links_of layers s at b)) s)
       (shape_of k b)) there
-      ∙ ap (λ (o : Option Shape). option_and_then (λ s. tree_of n k at b (all_trees (read d) (links_of layers s at b)) s)
+      ∙ ap (λ (o : Option Shape).
+      option_and_then (λ s. tree_of n k at b (all_trees (read d) (links_of layers s at b)) s)
       o) (is.shape size index z)
       ∙ ap (λ (o : Option Forest). tree_of n k at b o s) under
       ∙ of-bytes at k s first rest z size index below is some

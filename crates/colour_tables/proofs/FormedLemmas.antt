@@ -70,7 +70,8 @@ module _ (n : ℕ) (t layers : List ℕ) where
       (λ tree is more.
       map-some (with_tree tree) (all_trees (read d) xs) f more
       (λ after rest same. subst (Formed n d (x.1 ∷ map kind_at xs)) same
-      (formed-with n d x.1 (map kind_at xs) tree after (formed x.0 x.1 tree is) (forest-formed d formed xs after rest))))
+      (formed-with n d x.1 (map kind_at xs) tree after (formed x.0 x.1 tree is)
+      (forest-formed d formed xs after rest))))
 
   table-of : (k : Kind) (s : Shape) (b : List ℕ) → shape_of k b ≡ Some s → shape_size s ≤ length b
       → names_glyph n k (get_or b 0 0) (rest_of s b) ≡ true → IsTable n k s (get_or b 0 0) (rest_of s b)
@@ -110,7 +111,8 @@ module _ (n : ℕ) (t layers : List ℕ) where
   tree-formed zero at k tree e = absurd (none-some tree e)
   tree-formed (suc d) at k tree e =
       let b = drop at t in
-      option_and_then_some (λ s. tree_of n k at b (all_trees (read d) (links_of layers s at b)) s) (shape_of k b) tree e
+      option_and_then_some (λ s. tree_of n k at b (all_trees (read d) (links_of layers s at b)) s) (shape_of k b) tree
+      e
       (λ s is more. shape-formed d at k s b tree (tree-formed d) is more)
 
 -- a clip box is of a plain shape

@@ -126,7 +126,8 @@ module _ (n place : ℕ) (glyphs : List (ℕ × List Layer)) (after t : List ℕ
   lists_are order =
       let bases : has_records t (bases_offset t) (base_count t) 6 ≡ true =
       ap (λ (k : ℕ). has_records t (bases_offset t) k 6) has.count
-      ∙ records_there t (bases_offset t) (length glyphs) 6 place _ has.bases has.some (omega arith) size (omega arith) in
+      ∙ records_there t (bases_offset t) (length glyphs) 6 place _ has.bases has.some (omega arith) size
+      (omega arith) in
       let layers : has_records t (layers_offset t) (layer_count t) 4 ≡ true =
       ap (λ (k : ℕ). has_records t (layers_offset t) k 4) has.total
       ∙ records_there t (layers_offset t) (layer_total glyphs) 4 (place + 6 * length glyphs) _ has.layers

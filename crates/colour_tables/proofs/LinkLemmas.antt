@@ -43,7 +43,8 @@ pub tree-glyphs : (n : ℕ) (k : Kind) (t : List ℕ) (at : ℕ) (tree : Tree) �
     → AreBelow n (forest_names (k ∷ []) (with_tree tree Bare))
 unfolding tree_in
 tree-glyphs n k t at tree e =
-    forest-glyphs n MAX_DEPTH (k ∷ []) (with_tree tree Bare) (tree-formed n t (layer_places_of t) MAX_DEPTH at k tree e)
+    forest-glyphs n MAX_DEPTH (k ∷ []) (with_tree tree Bare)
+    (tree-formed n t (layer_places_of t) MAX_DEPTH at k tree e)
 
 pub layer-glyphs : (n : ℕ) (layers : Option (List Layer)) → are_layers n layers ≡ true
     → AreBelow n (layer_names layers)

@@ -31,7 +31,8 @@ u32-drop : (k j : ℕ) (b : List ℕ) → u32_at (drop k b) j ≡ u32_at b (k + 
 unfolding u32_at
 u32-drop k j b =
     let same : (i : ℕ) → get_or (drop k b) (j + i) 0 ≡ get_or b (k + j + i) 0 =
-    λ i. (let sum : k + (j + i) ≡ k + j + i = omega arith in get_or-drop k b (j + i) 0 ∙ ap (λ (m : ℕ). get_or b m 0) sum) in
+    λ i. (let sum : k + (j + i) ≡ k + j + i = omega arith in
+    get_or-drop k b (j + i) 0 ∙ ap (λ (m : ℕ). get_or b m 0) sum) in
     let first = get_or-drop k b j 0 in
     let second = same 1 in
     let third = same 2 in
@@ -93,7 +94,8 @@ base-roots (r ∷ rs) place t after offset some above there =
     (offset ∙ offset-some count place (omega arith))
     ∙ (λ i. roots_in place (is i) (left i)) ∙ roots_read place (r ∷ rs) after above
 
-pub base-list-has : (rs : List (ℕ × ℕ)) (place : ℕ) (t after : List ℕ) → base_list_offset t ≡ offset_of (length rs) place
+pub base-list-has : (rs : List (ℕ × ℕ)) (place : ℕ) (t after : List ℕ)
+    → base_list_offset t ≡ offset_of (length rs) place
     → 0 < place → drop place t ≡ base_list place rs ++ after → has_list t (base_list_offset t) 0 6 ≡ true
 base-list-has [] place t after offset some there = ap (λ (o : ℕ). has_list t o 0 6) offset
 base-list-has (r ∷ rs) place t after offset some there =
@@ -146,7 +148,8 @@ list-clips (r ∷ rs) place t after offset some above there =
     (offset ∙ offset-some count place (omega arith))
     ∙ (λ i. clips_in place (is i) (left i)) ∙ clips_read place (r ∷ rs) after above
 
-pub clip-list-has : (rs : List (ℕ × ℕ)) (place : ℕ) (t after : List ℕ) → clip_list_offset t ≡ offset_of (length rs) place
+pub clip-list-has : (rs : List (ℕ × ℕ)) (place : ℕ) (t after : List ℕ)
+    → clip_list_offset t ≡ offset_of (length rs) place
     → 0 < place → drop place t ≡ clip_list place rs ++ after → has_list t (clip_list_offset t) 1 7 ≡ true
 clip-list-has [] place t after offset some there = ap (λ (o : ℕ). has_list t o 1 7) offset
 clip-list-has (r ∷ rs) place t after offset some there =

@@ -9,11 +9,15 @@ use Rattle.colour_tables.specs.Glyphs.{listed, said_of, with_glyph}
 use Rattle.colour_tables.specs.Laws.{HasLayersOf, IsRead, IsStored, PaintsAreReadBack}
 use Rattle.colour_tables.specs.MadeLayers.{base_rows, layer_header, layer_lists, layer_rows, offset_of}
 use Rattle.colour_tables.specs.MadePaints.{base_list, base_place, boxes_place, clip_list, clips_place, forest_bytes}
-use Rattle.colour_tables.specs.MadePaints.{forest_layers, forest_of, forest_places, layer_list, layers_place, list_size}
+use Rattle.colour_tables.specs.MadePaints.{forest_layers, forest_of, forest_places, layer_list, layers_place}
+use Rattle.colour_tables.specs.MadePaints.{list_size}
 use Rattle.colour_tables.specs.MadePaints.{map_place, store_place}
-use Rattle.colour_tables.specs.MadePaints.{paint_header, paint_lists, paint_table, paints_place, rooted, table_of_lists}
-use Rattle.colour_tables.specs.PaintLists.{Colour, are_clips, are_roots, base_list_offset, box_at, clip_list_offset, clips_of, forest_size}
-use Rattle.colour_tables.specs.PaintLists.{has_paint_lists, layer_list_offset, layer_places_of, paint_at, roots_of, tree_in}
+use Rattle.colour_tables.specs.MadePaints.{paint_header, paint_lists, paint_table, paints_place, rooted}
+use Rattle.colour_tables.specs.MadePaints.{table_of_lists}
+use Rattle.colour_tables.specs.PaintLists.{Colour, are_clips, are_roots, base_list_offset, box_at, clip_list_offset}
+use Rattle.colour_tables.specs.PaintLists.{clips_of, forest_size}
+use Rattle.colour_tables.specs.PaintLists.{has_paint_lists, layer_list_offset, layer_places_of, paint_at, roots_of}
+use Rattle.colour_tables.specs.PaintLists.{tree_in}
 use Rattle.colour_tables.specs.Paints.{MAX_DEPTH, Tree}
 use Rattle.colour_tables.specs.Stores.{Store, index_map_in, index_map_offset, store_in, store_of, store_offset}
 use Rattle.colour_tables.specs.declared.layer.Layer.{Layer}
@@ -63,7 +67,8 @@ piece-is : (piece_in : List ℕ → List ℕ)
     → ((b z : List ℕ) → 0 < length (piece_in b) → piece_in (piece_in b ++ z) ≡ piece_in b)
     → (t : List ℕ) (place : ℕ) (z m : List ℕ) (offset : ℕ) → offset ≡ offset_of (length m) place → 0 < place
     → drop place t ≡ m ++ z → Source piece_in m → cond (eqb offset 0) [] (piece_in (drop offset t)) ≡ m
-piece-is piece_in again t place z [] offset e some there source = cond-true (eqb offset 0) _ _ (ap (λ (k : ℕ). eqb k 0) e)
+piece-is piece_in again t place z [] offset e some there source =
+    cond-true (eqb offset 0) _ _ (ap (λ (k : ℕ). eqb k 0) e)
 piece-is piece_in again t place z (x ∷ xs) offset e some there source =
     let m = x ∷ xs in
     let from = source (omega arith) in
@@ -227,8 +232,11 @@ module _ (n : ℕ) (layers : List (ℕ × List Layer)) (paints boxes : List (ℕ
 
   paints-read : ReadsIn n t at_paints Paint paints
   paints-read =
-      reads n t (layer_places_of t) (forest_of paints) MAX_DEPTH at_paints 0 (replicate (length paints) Paint) after_paints []
-      (all-formed n MAX_DEPTH Paint paints paints_are) (omega arith) paints-there (places-are ∙ sym (append-nil places))
+      reads n t (layer_places_of t) (forest_of paints) MAX_DEPTH at_paints 0 (replicate (length paints) Paint)
+      after_paints
+      []
+      (all-formed n MAX_DEPTH Paint paints paints_are) (omega arith) paints-there
+      (places-are ∙ sym (append-nil places))
 
   boxes-read : ReadsIn n t at_boxes ClipBox boxes
   boxes-read =
@@ -267,7 +275,8 @@ module _ (n : ℕ) (layers : List (ℕ × List Layer)) (paints boxes : List (ℕ
   unfolding store_of
   store-is stored =
       let map_is =
-      piece-is index_map_in map-again t at_map w.store w.index_map (index_map_offset t) map-offset (omega arith) map-there
+      piece-is index_map_in map-again t at_map w.store w.index_map (index_map_offset t) map-offset (omega arith)
+      map-there
       (source-map w stored) in
       let own_is =
       piece-is store_in store-again t at_store [] w.store (store_offset t) variations-offset (omega arith) store-there

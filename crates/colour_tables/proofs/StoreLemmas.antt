@@ -89,7 +89,11 @@ map-again b z some = elim (cases_Bool (leb (index_map_size b) (length b))) [
       ∙ cond-true (leb (index_map_size (take s b ++ z)) (length (take s b ++ z))) _ _ (front-long s _ b z h again)
       ∙ take-again s _ b z h again ∙ sym own
   | inr none ↦
-      absurd (omega (arith, some, ap length (cond-false (leb (index_map_size b) (length b)) (take (index_map_size b) b) [] none)))
+      absurd (omega (
+        arith,
+        some,
+        ap length (cond-false (leb (index_map_size b) (length b)) (take (index_map_size b) b) [] none),
+      ))
 ]
 
 -- the store

@@ -1,21 +1,28 @@
 -- Tables that are written of bytes are bytes.
-use Rattle.std.proofs.Common.{◌≡◌, ℕ, zero, suc, ◌+◌, ◌*◌, ◌<◌, ◌≤◌, Bool, true, false, cond, eqb, leb, not, ◌&&◌, List, []}
-use Rattle.std.proofs.Common.{◌∷◌, ◌++◌, length, drop, take, find, flat_map, Option, None, Some, IfSome, refl, ap, subst}
+use Rattle.std.proofs.Common.{◌≡◌, ℕ, zero, suc, ◌+◌, ◌*◌, ◌<◌, ◌≤◌, Bool, true, false, cond, eqb, leb, not, ◌&&◌}
+use Rattle.std.proofs.Common.{List, []}
+use Rattle.std.proofs.Common.{◌∷◌, ◌++◌, length, drop, take, find, flat_map, Option, None, Some, IfSome, refl, ap}
+use Rattle.std.proofs.Common.{subst}
 use Rattle.std.proofs.Common.{arith}
 use Rattle.std.specs.Option.{option_and_then, option_map, option_map_or}
 use Rattle.std.proofs.lemmas.Bool.{and_parts, leb-true}
 use Rattle.colour_tables.specs.Glyphs.{AreBelow, listed, said_of, sum_below}
-use Rattle.colour_tables.specs.LayerLists.{MAX_LAYERS, base_count, bases_of, depth, layers_at, layers_have_room, layers_in, layers_of}
+use Rattle.colour_tables.specs.LayerLists.{MAX_LAYERS, base_count, bases_of, depth, layers_at, layers_have_room}
+use Rattle.colour_tables.specs.LayerLists.{layers_in, layers_of}
 use Rattle.colour_tables.specs.LayerLists.{layers_offset}
 use Rattle.colour_tables.specs.Laws.{ColourOfBytes, LayersOfBytes, StoreOfBytes, WrittenAreBytes}
-use Rattle.colour_tables.specs.MadeLayers.{base_rows, bytes_of_u16, bytes_of_u32, layer_bytes, layer_header, layer_lists}
+use Rattle.colour_tables.specs.MadeLayers.{base_rows, bytes_of_u16, bytes_of_u32, layer_bytes, layer_header}
+use Rattle.colour_tables.specs.MadeLayers.{layer_lists}
 use Rattle.colour_tables.specs.MadeLayers.{layer_rows, layer_table, layer_total, offset_of}
 use Rattle.colour_tables.specs.MadePaints.{base_list, base_place, boxes_place, clip_list, clip_rows, clips_place}
-use Rattle.colour_tables.specs.MadePaints.{forest_bytes, forest_layers, forest_of, forest_places, layer_list, layers_place}
+use Rattle.colour_tables.specs.MadePaints.{forest_bytes, forest_layers, forest_of, forest_places, layer_list}
+use Rattle.colour_tables.specs.MadePaints.{layers_place}
 use Rattle.colour_tables.specs.MadePaints.{list_size, map_place, paint_header, paint_lists, paint_table, paints_place}
 use Rattle.colour_tables.specs.MadePaints.{place_rows, root_rows, rooted, store_place, table_of_lists}
-use Rattle.colour_tables.specs.PaintLists.{Colour, MAX_BYTES, base_list_offset, box_at, clip_list_offset, clip_place, clips_of, colour_size}
-use Rattle.colour_tables.specs.PaintLists.{colours_have_room, forest_size, layer_places_of, paint_at, roots_of, tree_in}
+use Rattle.colour_tables.specs.PaintLists.{Colour, MAX_BYTES, base_list_offset, box_at, clip_list_offset, clip_place}
+use Rattle.colour_tables.specs.PaintLists.{clips_of, colour_size}
+use Rattle.colour_tables.specs.PaintLists.{colours_have_room, forest_size, layer_places_of, paint_at, roots_of}
+use Rattle.colour_tables.specs.PaintLists.{tree_in}
 use Rattle.colour_tables.specs.PaintLists.{tree_size}
 use Rattle.colour_tables.specs.Paints.{MAX_DEPTH, Tree}
 use Rattle.colour_tables.specs.Stores.{Store, index_map_in, index_map_offset, index_map_size, store_end, store_in}
@@ -25,7 +32,8 @@ use Rattle.colour_tables.specs.declared.layer.Base.{Base}
 use Rattle.colour_tables.specs.declared.layer.Layer.{Layer}
 use Rattle.colour_tables.specs.declared.shape.Kind.{Kind}
 use Rattle.colour_tables.specs.declared.shape.Kind.TheVariants.{ClipBox, Paint}
-use Rattle.colour_tables.proofs.ByteLemmas.{AllSaid, AreBytes, below-drop, below-take, listed-all, listed-count, listed-sum}
+use Rattle.colour_tables.proofs.ByteLemmas.{AllSaid, AreBytes, below-drop, below-take, listed-all, listed-count}
+use Rattle.colour_tables.proofs.ByteLemmas.{listed-sum}
 use Rattle.colour_tables.proofs.ByteLemmas.{sum_said, u16-bytes, u16-small, u32-bytes}
 use Rattle.colour_tables.proofs.FormedLemmas.{box-size, tree-formed}
 use Rattle.colour_tables.proofs.GlyphLemmas.{below-append, sum-less}
@@ -122,7 +130,9 @@ few-layers : (n : ℕ) (x : ℕ → Option (List Layer)) → layers_have_room n 
     → layer_total (listed x 0 n) < 65536
 unfolding layers_have_room MAX_LAYERS
 few-layers n x room =
-    let most = leb-true (sum_below (λ g. depth (x g)) n) 65535 (and_parts _ (leb (sum_below (λ g. depth (x g)) n) 65535) room).1 in
+    let most =
+    leb-true (sum_below (λ g. depth (x g)) n) 65535
+    (and_parts _ (leb (sum_below (λ g. depth (x g)) n) 65535) room).1 in
     omega (arith, most, total-sum (listed x 0 n), listed-sum length x n)
 
 layer-table-bytes : (n : ℕ) (x : ℕ → Option (List Layer)) → n < 65536 → ((g : ℕ) → LayersOfBytes g (x g))
@@ -405,12 +415,14 @@ store-bytes t are low =
     either-bytes t (index_map_in (drop (index_map_offset t) t)) (eqb (index_map_offset t) 0)
     (map-bytes t (index_map_offset t) are) in
     let store_is =
-    either-bytes t (store_in (drop (store_offset t) t)) (eqb (store_offset t) 0) (piece-bytes t (store_offset t) are) in
+    either-bytes t (store_in (drop (store_offset t) t)) (eqb (store_offset t) 0)
+    (piece-bytes t (store_offset t) are) in
     record { index_map = map_is.0; store = store_is.0; size = omega (arith, map_is.1, low) }
 
 -- nothing is said by a table without a byte
 pub none-of_bytes : (n g : ℕ) → ColourOfBytes n g (record { layers = None; paint = None; box = None })
-unfolding layers_at bases_of base_count paint_at box_at roots_of clips_of base_list_offset clip_list_offset u16_at u32_at
+unfolding layers_at bases_of base_count paint_at box_at roots_of clips_of base_list_offset clip_list_offset u16_at
+    u32_at
 none-of_bytes n g = ([], tt, refl)
 
 pub no_layers-of_bytes : (g : ℕ) → LayersOfBytes g None

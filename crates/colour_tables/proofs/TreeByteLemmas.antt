@@ -7,7 +7,8 @@ use Rattle.std.proofs.lemmas.Bool.{cases_Bool}
 use Rattle.std.proofs.lemmas.Option.{none-some, option_and_then_some, same_Some}
 use Rattle.colour_tables.specs.Glyphs.{AreBelow}
 use Rattle.colour_tables.specs.MadePaints.{clip_rows, first_size, forest_bytes, forest_count, forest_layers, forest_of}
-use Rattle.colour_tables.specs.MadePaints.{forest_places, own_count, own_places, place_rows, root_rows, rooted, shape_bytes}
+use Rattle.colour_tables.specs.MadePaints.{forest_places, own_count, own_places, place_rows, root_rows, rooted}
+use Rattle.colour_tables.specs.MadePaints.{shape_bytes}
 use Rattle.colour_tables.specs.MadePaints.{starts}
 use Rattle.colour_tables.specs.MadeLayers.{bytes_of_u16, bytes_of_u24, bytes_of_u32}
 use Rattle.colour_tables.specs.PaintLists.{forest_size, tree_size}
@@ -55,7 +56,8 @@ module _ (n : ℕ) (t layers : List ℕ) (bytes : AreBytes t) where
   shape-of_bytes d at k s b tree of are is = elim (cases_Bool test) [
     | inl yes_it ↦
         map-some make (all_trees (tree_at n t layers d) (links_of layers s at b)) tree
-        (sym (ap (λ c. cond c (option_map make (all_trees (tree_at n t layers d) (links_of layers s at b))) None) yes_it)
+        (sym (ap (λ c.
+        cond c (option_map make (all_trees (tree_at n t layers d) (links_of layers s at b))) None) yes_it)
         ∙ is)
         (λ below under same. subst (λ (x : Tree). OfBytes (with_tree x Bare)) same (
           below-get 256 0 b (omega arith) are,
@@ -65,7 +67,8 @@ module _ (n : ℕ) (t layers : List ℕ) (bytes : AreBytes t) where
         ))
     | inr no_it ↦
         absurd (none-some tree
-        (sym (ap (λ c. cond c (option_map make (all_trees (tree_at n t layers d) (links_of layers s at b))) None) no_it)
+        (sym (ap (λ c.
+        cond c (option_map make (all_trees (tree_at n t layers d) (links_of layers s at b))) None) no_it)
         ∙ is))
   ]
     where
@@ -121,7 +124,8 @@ shape-bytes (Two more k l) first rest size index f r h i =
       below-append 256 (one ++ rest) two
           (below-append 256 one rest (u24-bytes (7 + more) (omega (arith, h))) r) (u24-bytes (7 + more + size) h),
     )
-shape-bytes Layers first rest size index f r h i = (f, below-append 256 rest (bytes_of_u32 index) r (u32-bytes index i))
+shape-bytes Layers first rest size index f r h i =
+    (f, below-append 256 rest (bytes_of_u32 index) r (u32-bytes index i))
 
 pub forest-bytes : (f : Forest) (index : ℕ) → OfBytes f → forest_size f < 16777216
     → index + forest_layers f < 4294967296 → AreBytes (forest_bytes index f)

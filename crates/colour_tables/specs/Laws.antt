@@ -5,7 +5,8 @@ use Rattle.colour_tables.specs.Glyphs.{AreBelow, listed}
 use Rattle.colour_tables.specs.LayerLists.{has_layer_lists, layers_at, layers_have_room}
 use Rattle.colour_tables.specs.MadeLayers.{layer_header, layer_lists, layer_table}
 use Rattle.colour_tables.specs.MadePaints.{paint_table}
-use Rattle.colour_tables.specs.PaintLists.{Colour, box_at, colour_at, colours_have_room, has_paint_lists, paint_at, tree_in}
+use Rattle.colour_tables.specs.PaintLists.{Colour, box_at, colour_at, colours_have_room, has_paint_lists, paint_at}
+use Rattle.colour_tables.specs.PaintLists.{tree_in}
 use Rattle.colour_tables.specs.Paints.{Tree}
 use Rattle.colour_tables.specs.Stores.{Store, store_of}
 use Rattle.colour_tables.specs.declared.layer.Layer.{Layer}
@@ -22,7 +23,8 @@ abbrev pub LayersAreReadBack : Type 0
 LayersAreReadBack =
     (n version : ℕ) (layers : ℕ → Option (List Layer)) (between after : List ℕ)
     → HasLayersOf n layers
-    (layer_header version (14 + length between) (listed layers 0 n) ++ between ++ layer_lists (listed layers 0 n) ++ after)
+    (layer_header version (14 + length between) (listed layers 0 n) ++ between ++ layer_lists (listed layers 0 n)
+    ++ after)
 
 -- a tree, if there is one, is read as a kind of some table of n glyphs
 abbrev pub IsRead : ℕ → Kind → Option Tree → Type 0

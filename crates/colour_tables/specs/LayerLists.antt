@@ -1,5 +1,6 @@
 -- The layers of glyphs (OpenType 1.9, COLR, Header; BaseGlyph and Layer records).
-use Rattle.std.specs.Prelude.{ℕ, zero, suc, ◌+◌, ◌*◌, nat_eq, nat_le, nat_lt, not, Bool, true, ◌&&◌, ◌||◌, List, [], ◌∷◌}
+use Rattle.std.specs.Prelude.{ℕ, zero, suc, ◌+◌, ◌*◌, nat_eq, nat_le, nat_lt, not, Bool, true, ◌&&◌, ◌||◌, List, []}
+use Rattle.std.specs.Prelude.{◌∷◌}
 use Rattle.std.specs.Prelude.{drop, find, length, Option}
 use Rattle.std.specs.List.{list_all}
 use Rattle.std.specs.Option.{option_map, option_map_or}
@@ -26,7 +27,8 @@ layer_count t = u16_at t 12
 
 -- so many records of a size lie within a table from an offset on, which is not 0 unless there are none
 abbrev pub has_records : List ℕ → ℕ → ℕ → ℕ → Bool
-has_records t offset count size = nat_eq count 0 || (not (nat_eq offset 0) && nat_le (offset + size * count) (length t))
+has_records t offset count size =
+    nat_eq count 0 || (not (nat_eq offset 0) && nat_le (offset + size * count) (length t))
 
 -- so many BaseGlyph records, with which bytes begin: glyphID, firstLayerIndex, numLayers
 abbrev pub bases_in : ℕ → List ℕ → List Base

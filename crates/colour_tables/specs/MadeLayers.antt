@@ -1,5 +1,6 @@
 -- The lists of layers that are written (OpenType 1.9, COLR, Header; BaseGlyph and Layer records).
-use Rattle.std.specs.Prelude.{ℕ, ◌+◌, ◌*◌, ◌/◌, ◌%◌, nat_eq, List, [], ◌∷◌, ◌++◌, length, flat_map, if◌then◌else◌, Option}
+use Rattle.std.specs.Prelude.{ℕ, ◌+◌, ◌*◌, ◌/◌, ◌%◌, nat_eq, List, [], ◌∷◌, ◌++◌, length, flat_map, if◌then◌else◌}
+use Rattle.std.specs.Prelude.{Option}
 use Rattle.colour_tables.specs.Glyphs.{listed}
 use Rattle.colour_tables.specs.declared.layer.Layer.{Layer}
 

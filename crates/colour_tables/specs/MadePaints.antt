@@ -110,8 +110,8 @@ abbrev pub clip_list : ℕ → List (ℕ × ℕ) → List ℕ
 clip_list at [] = []
 clip_list at (r ∷ rs) = 1 ∷ bytes_of_u32 (length (r ∷ rs)) ++ clip_rows at (r ∷ rs)
 
--- the places of what stands after the lists of layers, of these layers, paints and clip boxes of glyphs: BaseGlyphList,
--- LayerList, paints, ClipList, and clip boxes, near enough to their list for an Offset24
+-- the places of what stands after the lists of layers, of these layers, paints and clip boxes of glyphs:
+-- BaseGlyphList, LayerList, paints, ClipList, and clip boxes, near enough to their list for an Offset24
 abbrev pub base_place : List (ℕ × List Layer) → ℕ
 base_place layers = 34 + (6 * length layers + 4 * layer_total layers)
 

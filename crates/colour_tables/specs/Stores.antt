@@ -56,8 +56,8 @@ store_end b = max (max (8 + 4 * u16_at b 6) (regions_end b)) (data_ends b (u16_a
 -- the store of format 1 that begins bytes, to the end of its last piece, if that is all there
 unfoldable pub store_in : List ℕ → List ℕ
 store_in b =
-    if nat_eq (u16_at b 0) 1 && not (nat_eq (u32_at b 2) 0) && nat_le (store_end b) (length b) then take (store_end b) b
-    else []
+    if nat_eq (u16_at b 0) 1 && not (nat_eq (u32_at b 2) 0) && nat_le (store_end b) (length b)
+    then take (store_end b) b else []
 
 -- varIndexMapOffset
 unfoldable pub index_map_offset : List ℕ → ℕ
