@@ -144,7 +144,7 @@ varying_paints =
     ∷ 0 ∷ 0 ∷ 0 ∷ 1 ∷ 0  -- DeltaSetIndexMap: format, entryFormat, mapCount, an entry
     ∷ 0 ∷ 1 ∷ 0 ∷ 0 ∷ 0 ∷ 12 ∷ 0 ∷ 1 ∷ 0 ∷ 0 ∷ 0 ∷ 22  -- ItemVariationStore: format, offsets, itemVariationDataCount
     ∷ 0 ∷ 1 ∷ 0 ∷ 1 ∷ 0 ∷ 0 ∷ 64 ∷ 0 ∷ 64 ∷ 0  -- VariationRegionList: axisCount, regionCount, a region
-    ∷ 0 ∷ 1 ∷ 0 ∷ 1 ∷ 0 ∷ 1 ∷ 0 ∷ 0 ∷ 224 ∷ 0  -- ItemVariationData: itemCount, wordDeltaCount, regionIndexCount, an index, deltas
+    ∷ 0 ∷ 1 ∷ 0 ∷ 1 ∷ 0 ∷ 1 ∷ 0 ∷ 0 ∷ 224 ∷ 0  -- ItemVariationData: three counts, an index, deltas
     ∷ []
 
 -- one that says nothing, and of which the same varies
@@ -159,7 +159,7 @@ no_varying_paints =
     ∷ 0 ∷ 0 ∷ 0 ∷ 1 ∷ 0  -- DeltaSetIndexMap: format, entryFormat, mapCount, an entry
     ∷ 0 ∷ 1 ∷ 0 ∷ 0 ∷ 0 ∷ 12 ∷ 0 ∷ 1 ∷ 0 ∷ 0 ∷ 0 ∷ 22  -- ItemVariationStore: format, offsets, itemVariationDataCount
     ∷ 0 ∷ 1 ∷ 0 ∷ 1 ∷ 0 ∷ 0 ∷ 64 ∷ 0 ∷ 64 ∷ 0  -- VariationRegionList: axisCount, regionCount, a region
-    ∷ 0 ∷ 1 ∷ 0 ∷ 1 ∷ 0 ∷ 1 ∷ 0 ∷ 0 ∷ 224 ∷ 0  -- ItemVariationData: itemCount, wordDeltaCount, regionIndexCount, an index, deltas
+    ∷ 0 ∷ 1 ∷ 0 ∷ 1 ∷ 0 ∷ 1 ∷ 0 ∷ 0 ∷ 224 ∷ 0  -- ItemVariationData: three counts, an index, deltas
     ∷ []
 
 -- one of glyph 1 alone, of which nothing varies
