@@ -27,7 +27,7 @@ unfolding is_paint_table
 version_1 n t is =
     eqb-true (u16_at t 0) 1 (and_parts _ _ (and_parts _ _ (and_parts _ _ (and_parts _ _ is).0).0).0).1
 
-one_version : (n : ℕ) (t : List ℕ) → is_paint_table n t ≡ true → is_layer_table n t ≡ false
+pub one_version : (n : ℕ) (t : List ℕ) → is_paint_table n t ≡ true → is_layer_table n t ≡ false
 one_version n t is =
     false_from_ne_true (is_layer_table n t) (λ e. absurd (omega (arith, version_0 n t e, version_1 n t is)))
 

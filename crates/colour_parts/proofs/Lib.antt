@@ -3,6 +3,7 @@ pub mod LayerTableLemmas
 pub mod NameLemmas
 pub mod PaintTableLemmas
 pub mod SideLemmas
+pub mod StillLemmas
 pub mod TellingLemmas
 pub mod WayLemmas
 pub mod WholeByteLemmas

@@ -62,3 +62,16 @@ WholeIsBytes D =
 
 abbrev pub WholesAreBytes : Type 0
 WholesAreBytes = WholeIsBytes colours × WholeIsBytes varying_colours
+
+-- tables with what varies and without it have the same parts, which fit alike; and the frame without what varies is that
+-- of the frame with it, and of the table of that frame and of parts that fit
+pub record IsStillOf (c : Tables) (t : List ℕ) : Type 0 where
+  pub part : (g : ℕ) → colours.part c t g ≡ varying_colours.part c t g
+  pub fits : (parts : ℕ → List ℕ) → colours.fits c t parts ≡ varying_colours.fits c t parts
+  pub frame : colours.frame c (varying_colours.frame c t) ≡ colours.frame c t
+  pub whole :
+      (parts : ℕ → List ℕ) → varying_colours.fits c t parts ≡ true
+      → colours.frame c (varying_colours.whole c t parts) ≡ colours.frame c t
+
+abbrev pub StillOfVarying : Type 0
+StillOfVarying = (c : Tables) (t : List ℕ) → IsStillOf c t

@@ -1,6 +1,6 @@
 //! Laws of colour tables as divided tables: the contract of each function is what it says.
 ghost use Rattle.colour_parts.specs.Laws.{ColourTablesAreDivided, LayerTablesAreDivided, PaintTablesAreDivided};
-ghost use Rattle.colour_parts.specs.Telling.{CutsSay, NamesAreGlyphs, PartsOfOneTableFit, PartsTell, WholesAreBytes};
+ghost use Rattle.colour_parts.specs.Telling.{CutsSay, NamesAreGlyphs, PartsOfOneTableFit, PartsTell, StillOfVarying, WholesAreBytes};
 ghost use Rattle.colour_parts.specs.WorkedColours.{WorkedColoursAre};
 
 /// A colour table of version 0 is divided by glyph as each divided table is.
@@ -43,7 +43,12 @@ pub fn wholes_are_bytes()
     ensures { WholesAreBytes }
 {}
 
-/// What two small tables that fontTools wrote are divided into.
+/// Tables with what varies and without it have the same parts, and the frame without it is one of the frame with it.
+pub fn still_of_varying()
+    ensures { StillOfVarying }
+{}
+
+/// What three small tables that fontTools wrote are divided into.
 pub fn worked_colours()
     ensures { WorkedColoursAre }
 {}
