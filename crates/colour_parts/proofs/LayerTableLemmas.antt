@@ -9,7 +9,7 @@ use Rattle.colour_tables.specs.LayerLists.{MAX_LAYERS, are_layers, depth, layers
 use Rattle.colour_tables.specs.Laws.{HasLayersOf}
 use Rattle.colour_tables.specs.MadeLayers.{layer_header, layer_lists, layer_table}
 use Rattle.colour_tables.specs.declared.layer.Layer.{Layer}
-use Rattle.colour_tables.proofs.GlyphLemmas.{each-from, each-same, sum-less, sum-same}
+use Rattle.colour_tables.proofs.GlyphLemmas.{listed-same, each-from, each-same, sum-less, sum-same}
 use Rattle.colour_tables.proofs.LayerReadLemmas.{read_back}
 use Rattle.colour_parts.specs.Laws.{LayerTablesAreDivided}
 use Rattle.colour_parts.specs.LayerTables.{is_layer_table, layer_way}
@@ -87,6 +87,13 @@ pub room_read : (n : ℕ) (t : List ℕ) → is_layer_table n t ≡ true → lay
 unfolding is_layer_table
 room_read n t is = (and_parts _ _ is).1
 
+-- equal layers are written alike
+table-same : (n : ℕ) (x y : ℕ → Layers) → ((g : ℕ) → g < n → x g ≡ y g) → layer_table n x ≡ layer_table n y
+unfolding layer_table
+table-same n x y same =
+    ap (λ (es : List (ℕ × List Layer)). layer_header 0 14 es ++ layer_lists es)
+    (listed-same x y 0 n (λ g l. same g (omega (arith, l))))
+
 pub layer_way_is : IsWay layer_way (λ _. Unit {0}) (λ _ _. Unit {0})
 unfolding layer_way is_layer_table
 layer_way_is = record {
@@ -94,6 +101,8 @@ layer_way_is = record {
   is_nothing = refl;
   none = λ n. refl;
   room_less = room_less;
+  room_same = room_same;
+  made_same = λ n w x y same. table-same n x y same;
   no_front = tt;
   front_read = λ n t is. tt;
   nothing_said = λ n. tt;

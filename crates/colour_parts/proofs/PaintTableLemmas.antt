@@ -7,7 +7,7 @@ use Rattle.sfnt_bytes.specs.Number.{u16_at, u32_at}
 use Rattle.colour_tables.specs.Glyphs.{said_of, sum_below}
 use Rattle.colour_tables.specs.LayerLists.{layers_have_room}
 use Rattle.colour_tables.specs.Laws.{AreRead, HasColoursOf, IsRead, IsStored}
-use Rattle.colour_tables.specs.MadePaints.{paint_table}
+use Rattle.colour_tables.specs.MadePaints.{paint_table, table_of_lists}
 use Rattle.colour_tables.specs.PaintLists.{Colour, MAX_BYTES, box_at, clip_place, clips_of, colour_at, colour_size}
 use Rattle.colour_tables.specs.PaintLists.{colours_have_room, paint_at, roots_of, tree_in}
 use Rattle.colour_tables.specs.Paints.{Tree}
@@ -15,7 +15,7 @@ use Rattle.colour_tables.specs.Stores.{Store, index_map_offset, no_store, store_
 use Rattle.colour_tables.specs.declared.layer.Layer.{Layer}
 use Rattle.colour_tables.specs.declared.shape.Kind.{Kind}
 use Rattle.colour_tables.specs.declared.shape.Kind.TheVariants.{ClipBox, Paint}
-use Rattle.colour_tables.proofs.GlyphLemmas.{sum-less, sum-same}
+use Rattle.colour_tables.proofs.GlyphLemmas.{listed-same, sum-less, sum-same}
 use Rattle.colour_tables.proofs.PaintTableLemmas.{paints_back}
 use Rattle.colour_parts.specs.Laws.{PaintTablesAreDivided}
 use Rattle.colour_parts.specs.PaintTables.{is_paint_table, no_colour, paint_way, still_way, varying_way}
@@ -119,6 +119,21 @@ made_says front n w x stored own said room =
       said = colour-same n w x (paint_table n w x) has;
     }
 
+-- equal colours are written alike
+table-same : (n : ℕ) (w : Store) (x y : ℕ → Colour) → ((g : ℕ) → g < n → x g ≡ y g)
+    → paint_table n w x ≡ paint_table n w y
+unfolding paint_table
+table-same n w x y same =
+    let layers =
+    listed-same (λ g. (x g).layers) (λ g. (y g).layers) 0 n
+    (λ g l. ap (λ (c : Colour). c.layers) (same g (omega (arith, l)))) in
+    let paints =
+    listed-same (λ g. (x g).paint) (λ g. (y g).paint) 0 n
+    (λ g l. ap (λ (c : Colour). c.paint) (same g (omega (arith, l)))) in
+    let boxes =
+    listed-same (λ g. (x g).box) (λ g. (y g).box) 0 n (λ g l. ap (λ (c : Colour). c.box) (same g (omega (arith, l)))) in
+    λ i. table_of_lists (layers i) (paints i) (boxes i) w
+
 no_store-stored : IsStored no_store
 unfolding store_of index_map_offset store_offset u32_at
 no_store-stored = ([], refl)
@@ -133,6 +148,8 @@ still_way_is = record {
   is_nothing = refl;
   none = λ n. refl;
   room_less = colours_less;
+  room_same = colours_same;
+  made_same = table-same;
   no_front = refl;
   front_read = λ n t is. refl;
   nothing_said = λ n. (tt, tt);
@@ -149,6 +166,8 @@ varying_way_is = record {
   is_nothing = refl;
   none = λ n. refl;
   room_less = colours_less;
+  room_same = colours_same;
+  made_same = table-same;
   no_front = no_store-stored;
   front_read = λ n t is. (t, refl);
   nothing_said = λ n. (tt, tt);

@@ -4,8 +4,8 @@ use Rattle.std.proofs.Common.{sym, ◌∙◌}
 use Rattle.std.proofs.Common.{inl, inr}
 use Rattle.std.proofs.lemmas.Bool.{cases_Bool, cases_eq, cond-false, cond-true, eq-eqb, ne_eqb}
 use Rattle.font_theory.specs.Content.{glyph_count}
-use Rattle.font_theory.specs.Parting.{IsParting}
-use Rattle.colour_parts.specs.Telling.{CutSays, PartTells}
+use Rattle.font_theory.specs.Parting.{Tables, IsParting}
+use Rattle.colour_parts.specs.Telling.{CutSays, IsPartOf, MakesOf, PartTells}
 use Rattle.colour_parts.specs.Ways.{IsWay, Says, Way, alone, parting_by, said_by}
 
 module _ {W X : Type 0} (way : Way W X) (IsFront : W → Type 0) (IsSaid : ℕ → X → Type 0)
@@ -290,3 +290,23 @@ module _ {W X : Type 0} (way : Way W X) (IsFront : W → Type 0) (IsSaid : ℕ �
   pub cut_says : CutSays way
   unfolding parting_by
   cut_says c t keeps d = cut_in (glyph_count c) t keeps d
+
+  -- what parts that come of tables say
+  part-said : (c : Tables) (parts : ℕ → List ℕ) (g : ℕ) (x : X) → g < glyph_count c → IsPartOf way c g x (parts g)
+      → said_by way (glyph_count c) parts g ≡ x
+  unfolding parting_by
+  part-said c parts g x l (inl e) = said-none (glyph_count c) g (parts g) e.0 ∙ sym e.1
+  part-said c parts g x l (inr w) =
+      let n = glyph_count c in
+      ap (λ (b : List ℕ). cond (way.divided n b) (way.said n b g) way.nothing) (sym w.2)
+      ∙ part-says n w.0 g w.1 l ∙ w.3
+
+  pub makes_of : MakesOf way
+  unfolding parting_by
+  makes_of c t parts x d of =
+      let n = glyph_count c in
+      let said : (g : ℕ) → g < n → said_by way n parts g ≡ x g = λ g l. part-said c parts g (x g) l (of g l) in
+      record {
+        fits = cond-true (way.divided n t) _ _ d ∙ are.room_same n (said_by way n parts) x said;
+        whole = cond-true (way.divided n t) _ _ d ∙ are.made_same n (way.front t) (said_by way n parts) x said;
+      }

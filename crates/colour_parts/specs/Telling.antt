@@ -63,8 +63,29 @@ WholeIsBytes D =
 abbrev pub WholesAreBytes : Type 0
 WholesAreBytes = WholeIsBytes colours × WholeIsBytes varying_colours
 
--- tables with what varies and without it have the same parts, which fit alike; and the frame without what varies is that
--- of the frame with it, and of the table of that frame and of parts that fit
+-- bytes are the part of a glyph of some table that says x of it, or there are none, and nothing is said
+abbrev pub IsPartOf : {W X : Type 0} → Way W X → Tables → ℕ → X → List ℕ → Type 0
+IsPartOf way c g x b =
+    ((b ≡ []) × (x ≡ way.nothing))
+    ⊎ ((u : List ℕ) × (way.divided (glyph_count c) u ≡ true) × ((parting_by way).part c u g ≡ b)
+    × (way.said (glyph_count c) u g ≡ x))
+
+-- parts that come of tables fit where what these say has room, and their table is made of it
+pub record IsMadeOf {W X : Type 0} (way : Way W X) (c : Tables) (t : List ℕ) (parts : ℕ → List ℕ) (x : ℕ → X) : Type 0
+  where
+    pub fits : (parting_by way).fits c t parts ≡ way.room (glyph_count c) x
+    pub whole : (parting_by way).whole c t parts ≡ way.made (glyph_count c) (way.front t) x
+
+abbrev pub MakesOf : {W X : Type 0} → Way W X → Type 0
+MakesOf {W} {X} way =
+    (c : Tables) (t : List ℕ) (parts : ℕ → List ℕ) (x : ℕ → X) → way.divided (glyph_count c) t ≡ true
+    → ((g : ℕ) → g < glyph_count c → IsPartOf way c g (x g) (parts g)) → IsMadeOf way c t parts x
+
+abbrev pub WholesAreMade : Type 0
+WholesAreMade = MakesOf layer_way × MakesOf still_way × MakesOf varying_way
+
+-- tables with what varies and without it have the same parts, which fit alike; and the frame without what varies is
+-- that of the frame with it, and of the table of that frame and of parts that fit
 pub record IsStillOf (c : Tables) (t : List ℕ) : Type 0 where
   pub part : (g : ℕ) → colours.part c t g ≡ varying_colours.part c t g
   pub fits : (parts : ℕ → List ℕ) → colours.fits c t parts ≡ varying_colours.fits c t parts

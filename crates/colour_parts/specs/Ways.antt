@@ -52,6 +52,9 @@ pub record IsWay {W X : Type 0} (way : Way W X) (IsFront : W → Type 0) (IsSaid
   pub room_less :
       (n : ℕ) (x y : ℕ → X) → ((g : ℕ) → g < n → (y g ≡ way.nothing) ⊎ (y g ≡ x g)) → way.room n x ≡ true
       → way.room n y ≡ true
+  pub room_same : (n : ℕ) (x y : ℕ → X) → ((g : ℕ) → g < n → x g ≡ y g) → way.room n x ≡ way.room n y
+  pub made_same :
+      (n : ℕ) (w : W) (x y : ℕ → X) → ((g : ℕ) → g < n → x g ≡ y g) → way.made n w x ≡ way.made n w y
   pub no_front : IsFront way.no_front
   pub nothing_said : (n : ℕ) → IsSaid n way.nothing
   pub front_read : (n : ℕ) (t : List ℕ) → way.divided n t ≡ true → IsFront (way.front t)

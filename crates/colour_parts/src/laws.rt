@@ -1,6 +1,7 @@
 //! Laws of colour tables as divided tables: the contract of each function is what it says.
 ghost use Rattle.colour_parts.specs.Laws.{ColourTablesAreDivided, LayerTablesAreDivided, PaintTablesAreDivided};
-ghost use Rattle.colour_parts.specs.Telling.{CutsSay, NamesAreGlyphs, PartsOfOneTableFit, PartsTell, StillOfVarying, WholesAreBytes};
+ghost use Rattle.colour_parts.specs.Telling.{CutsSay, NamesAreGlyphs, PartsOfOneTableFit, PartsTell};
+ghost use Rattle.colour_parts.specs.Telling.{StillOfVarying, WholesAreBytes, WholesAreMade};
 ghost use Rattle.colour_parts.specs.WorkedColours.{WorkedColoursAre};
 
 /// A colour table of version 0 is divided by glyph as each divided table is.
@@ -46,6 +47,11 @@ pub fn wholes_are_bytes()
 /// Tables with what varies and without it have the same parts, and the frame without it is one of the frame with it.
 pub fn still_of_varying()
     ensures { StillOfVarying }
+{}
+
+/// The table of parts that come of tables is made of what these tables say.
+pub fn wholes_are_made()
+    ensures { WholesAreMade }
 {}
 
 /// What three small tables that fontTools wrote are divided into.

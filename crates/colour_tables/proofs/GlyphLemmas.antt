@@ -76,6 +76,14 @@ module _ {X : Type 0} where
         ∙ said-listed said g (a + 1) k (omega (arith, h, o)) (omega (arith, l))
   ]
 
+  -- equal sayings are listed alike
+  pub listed-same : (x y : ℕ → Option X) (a m : ℕ) → ((g : ℕ) → g < a + m → x g ≡ y g) → listed x a m ≡ listed y a m
+  listed-same x y a zero e = refl
+  listed-same x y a (suc m) e =
+      let here = e a (omega arith) in
+      let rest = listed-same x y (a + 1) m (λ g l. e g (omega (arith, l))) in
+      λ i. with_glyph a (here i) (rest i)
+
   -- glyphs are listed in order, from a number on and below another
   abbrev pub Ascends : ℕ → ℕ → List (ℕ × X) → Type 0
   Ascends from end [] = Unit {0}
