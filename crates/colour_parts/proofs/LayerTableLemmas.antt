@@ -4,7 +4,7 @@ use Rattle.std.proofs.Common.{Option, None, Some, is_some, refl, ap, subst, â—Œâ
 use Rattle.std.proofs.Common.{inl, inr}
 use Rattle.std.proofs.lemmas.Bool.{and_from, and_parts, both_ways, le-leb, leb-true}
 use Rattle.sfnt_bytes.specs.Number.{u16_at}
-use Rattle.colour_tables.specs.Glyphs.{listed, sum_below}
+use Rattle.colour_tables.specs.ListedGlyphs.{listed, sum_below}
 use Rattle.colour_tables.specs.LayerLists.{MAX_LAYERS, are_layers, depth, layers_at, layers_have_room}
 use Rattle.colour_tables.specs.Laws.{HasLayersOf}
 use Rattle.colour_tables.specs.MadeLayers.{layer_header, layer_lists, layer_table}

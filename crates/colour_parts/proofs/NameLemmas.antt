@@ -2,10 +2,10 @@
 use Rattle.std.proofs.Common.{◌≡◌, ℕ, ◌<◌, true, List, [], ◌∷◌, Option, None, Some}
 use Rattle.std.specs.Option.{option_map_or}
 use Rattle.std.proofs.lemmas.Bool.{and_parts}
-use Rattle.colour_tables.specs.Glyphs.{AreBelow}
+use Rattle.colour_tables.specs.ListedGlyphs.{AreBelow}
 use Rattle.colour_tables.specs.LayerLists.{are_layers, layers_at, layers_have_room}
 use Rattle.colour_tables.specs.Laws.{IsRead}
-use Rattle.colour_tables.specs.Links.{forest_names, layer_names}
+use Rattle.colour_tables.specs.NamedGlyphs.{forest_names, layer_names}
 use Rattle.colour_tables.specs.PaintLists.{colour_at, colours_have_room}
 use Rattle.colour_tables.specs.Paints.{Bare, Tree, with_tree}
 use Rattle.colour_tables.specs.declared.layer.Layer.{Layer}

@@ -4,7 +4,7 @@ use Rattle.std.proofs.Common.{length, Option, None, Some, is_some, [], refl, ap,
 use Rattle.std.specs.Option.{option_and_then}
 use Rattle.std.proofs.lemmas.Bool.{and_from, and_parts, both_ways, eq-eqb, le-leb, leb-true}
 use Rattle.sfnt_bytes.specs.Number.{u16_at, u32_at}
-use Rattle.colour_tables.specs.Glyphs.{said_of, sum_below}
+use Rattle.colour_tables.specs.ListedGlyphs.{said_of, sum_below}
 use Rattle.colour_tables.specs.LayerLists.{layers_have_room}
 use Rattle.colour_tables.specs.Laws.{AreRead, HasColoursOf, IsRead, IsStored}
 use Rattle.colour_tables.specs.MadePaints.{paint_table, table_of_lists}
@@ -131,7 +131,8 @@ table-same n w x y same =
     listed-same (λ g. (x g).paint) (λ g. (y g).paint) 0 n
     (λ g l. ap (λ (c : Colour). c.paint) (same g (omega (arith, l)))) in
     let boxes =
-    listed-same (λ g. (x g).box) (λ g. (y g).box) 0 n (λ g l. ap (λ (c : Colour). c.box) (same g (omega (arith, l)))) in
+    listed-same (λ g. (x g).box) (λ g. (y g).box) 0 n
+    (λ g l. ap (λ (c : Colour). c.box) (same g (omega (arith, l)))) in
     λ i. table_of_lists (layers i) (paints i) (boxes i) w
 
 no_store-stored : IsStored no_store

@@ -1,6 +1,6 @@
 -- The table of parts that are bytes, and fit, is bytes.
 use Rattle.std.proofs.Common.{◌≡◌, ℕ, ◌<◌, Bool, true, false, cond, List, Option, None, refl, arith}
-use Rattle.colour_tables.specs.Glyphs.{AreBelow}
+use Rattle.colour_tables.specs.ListedGlyphs.{AreBelow}
 use Rattle.colour_tables.specs.LayerLists.{layers_at, layers_have_room}
 use Rattle.colour_tables.specs.Laws.{ColourOfBytes, LayersOfBytes, StoreOfBytes}
 use Rattle.colour_tables.specs.MadeLayers.{layer_table}

@@ -1,8 +1,8 @@
 -- What frames and parts of colour tables tell, this project's own, each of them the contract of a function.
 use Rattle.std.specs.Prelude.{◌≡◌, ℕ, ◌<◌, Bool, true, ◌⊎◌, List, [], length, if◌then◌else◌}
-use Rattle.colour_tables.specs.Glyphs.{AreBelow}
+use Rattle.colour_tables.specs.ListedGlyphs.{AreBelow}
 use Rattle.colour_tables.specs.LayerLists.{layers_at}
-use Rattle.colour_tables.specs.Links.{colour_names, layer_names}
+use Rattle.colour_tables.specs.NamedGlyphs.{colour_names, layer_names}
 use Rattle.colour_tables.specs.PaintLists.{colour_at}
 use Rattle.font_theory.specs.Content.{glyph_count}
 use Rattle.font_theory.specs.Parting.{Parting, Tables}

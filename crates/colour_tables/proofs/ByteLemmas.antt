@@ -3,7 +3,7 @@ use Rattle.std.proofs.Common.{◌≡◌, ℕ, zero, suc, ◌+◌, ◌<◌, ◌�
 use Rattle.std.proofs.Common.{Option, None, Some, IfSome, refl, ap, arith}
 use Rattle.std.specs.Option.{option_map_or}
 use Rattle.sfnt_bytes.specs.Number.{u16_at}
-use Rattle.colour_tables.specs.Glyphs.{AreBelow, listed, sum_below, with_glyph}
+use Rattle.colour_tables.specs.ListedGlyphs.{AreBelow, listed, sum_below, with_glyph}
 use Rattle.colour_tables.specs.MadeLayers.{bytes_of_u16, bytes_of_u24, bytes_of_u32}
 
 -- bytes

@@ -2,7 +2,7 @@
 use Rattle.std.proofs.Common.{◌++◌, ◌≡◌, ℕ, zero, suc, ◌+◌, ◌<◌, ◌≤◌, Bool, true, false, cond, eqb, ◌&&◌, List, []}
 use Rattle.std.proofs.Common.{◌∷◌, Option, None, Some, refl, ap, ◌∙◌, arith, inl, inr}
 use Rattle.std.proofs.lemmas.Bool.{and_from, and_parts, cases_eq, eq-eqb, ne_eqb}
-use Rattle.colour_tables.specs.Glyphs.{AreBelow, each_below, listed, said_of, sum_below, with_glyph}
+use Rattle.colour_tables.specs.ListedGlyphs.{AreBelow, each_below, listed, said_of, sum_below, with_glyph}
 
 -- equal tests and numbers
 pub each-same : (f h : ℕ → Bool) (n : ℕ) → ((g : ℕ) → g < n → f g ≡ h g) → each_below f n ≡ each_below h n

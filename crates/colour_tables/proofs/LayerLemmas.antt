@@ -6,7 +6,7 @@ use Rattle.std.specs.Option.{option_map}
 use Rattle.std.proofs.Math.Seq.{drop-append-add}
 use Rattle.std.proofs.lemmas.Bool.{and_from, cases_Bool, le-leb}
 use Rattle.sfnt_bytes.specs.Number.{u16_at}
-use Rattle.colour_tables.specs.Glyphs.{said_of}
+use Rattle.colour_tables.specs.ListedGlyphs.{said_of}
 use Rattle.colour_tables.specs.LayerLists.{are_bases, bases_in, layers_in}
 use Rattle.colour_tables.specs.MadeLayers.{base_rows, layer_bytes, layer_rows, layer_total}
 use Rattle.colour_tables.specs.declared.layer.Base.{Base}

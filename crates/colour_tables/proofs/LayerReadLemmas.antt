@@ -6,7 +6,7 @@ use Rattle.std.proofs.lemmas.List.{drop-drop, length-drop}
 use Rattle.std.proofs.Math.Seq.{drop-append-add, drop-append_seam}
 use Rattle.std.proofs.lemmas.Bool.{and_from, cases_Bool, le-leb, ne_eqb}
 use Rattle.sfnt_bytes.specs.Number.{number, u16_at, u32_at}
-use Rattle.colour_tables.specs.Glyphs.{listed, said_of}
+use Rattle.colour_tables.specs.ListedGlyphs.{listed, said_of}
 use Rattle.colour_tables.specs.LayerLists.{are_bases, base_count, bases_in, bases_of, bases_offset, has_layer_lists}
 use Rattle.colour_tables.specs.LayerLists.{has_records, layer_count, layers_at, layers_in}
 use Rattle.colour_tables.specs.LayerLists.{layers_of, layers_offset}

@@ -4,9 +4,9 @@ use Rattle.std.proofs.Common.{map, Option, None, Some}
 use Rattle.std.specs.List.{list_all}
 use Rattle.std.proofs.lemmas.Bool.{and_parts, ltb-true}
 use Rattle.sfnt_bytes.specs.Number.{u16_at}
-use Rattle.colour_tables.specs.Glyphs.{AreBelow}
+use Rattle.colour_tables.specs.ListedGlyphs.{AreBelow}
 use Rattle.colour_tables.specs.LayerLists.{are_layers}
-use Rattle.colour_tables.specs.Links.{forest_names, layer_names, named_by}
+use Rattle.colour_tables.specs.NamedGlyphs.{forest_names, layer_names, named_by}
 use Rattle.colour_tables.specs.PaintLists.{layer_places_of, tree_in}
 use Rattle.colour_tables.specs.Paints.{Bare, Forest, MAX_DEPTH, Tree, With, kinds_below, names_glyph, with_tree}
 use Rattle.colour_tables.specs.declared.layer.Layer.{Layer}

@@ -6,7 +6,7 @@ use Rattle.std.specs.Option.{option_and_then}
 use Rattle.std.proofs.lemmas.Bool.{cases_Bool, cond-false, ne_eqb}
 use Rattle.std.proofs.lemmas.Bool.Decides.{nat_tests}
 use Rattle.sfnt_bytes.specs.Number.{u16_at, u32_at}
-use Rattle.colour_tables.specs.Glyphs.{said_of}
+use Rattle.colour_tables.specs.ListedGlyphs.{said_of}
 use Rattle.colour_tables.specs.MadePaints.{base_list, clip_list, clip_rows, forest_of}
 use Rattle.colour_tables.specs.MadePaints.{forest_places, layer_list, list_size, own_places, place_rows, root_rows}
 use Rattle.colour_tables.specs.MadePaints.{rooted, starts}

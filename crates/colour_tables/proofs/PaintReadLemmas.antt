@@ -6,7 +6,7 @@ use Rattle.std.specs.Option.{option_and_then}
 use Rattle.std.proofs.lemmas.List.{get_or-drop, length-drop}
 use Rattle.std.proofs.lemmas.Bool.{and_from, cond-false, eq-eqb, le-leb, ne_eqb}
 use Rattle.sfnt_bytes.specs.Number.{number, u32_at}
-use Rattle.colour_tables.specs.Glyphs.{said_of}
+use Rattle.colour_tables.specs.ListedGlyphs.{said_of}
 use Rattle.colour_tables.specs.MadeLayers.{bytes_of_u32}
 use Rattle.colour_tables.specs.MadeLayers.{offset_of}
 use Rattle.colour_tables.specs.MadePaints.{base_list, clip_list, clip_rows}

@@ -5,7 +5,7 @@ use Rattle.std.proofs.Common.{refl, ap, sym, ◌∙◌, arith, append-nil, lengt
 use Rattle.std.proofs.Math.Seq.{drop-append_seam}
 use Rattle.std.proofs.lemmas.Bool.{and_from, cond-false, cond-true, ne_eqb}
 use Rattle.sfnt_bytes.specs.Number.{u16_at, u32_at}
-use Rattle.colour_tables.specs.Glyphs.{listed, said_of, with_glyph}
+use Rattle.colour_tables.specs.ListedGlyphs.{listed, said_of, with_glyph}
 use Rattle.colour_tables.specs.Laws.{HasLayersOf, IsRead, IsStored, PaintsAreReadBack}
 use Rattle.colour_tables.specs.MadeLayers.{base_rows, layer_header, layer_lists, layer_rows, offset_of}
 use Rattle.colour_tables.specs.MadePaints.{base_list, base_place, boxes_place, clip_list, clips_place, forest_bytes}

@@ -6,7 +6,7 @@ use Rattle.std.proofs.Common.{subst}
 use Rattle.std.proofs.Common.{arith}
 use Rattle.std.specs.Option.{option_and_then, option_map, option_map_or}
 use Rattle.std.proofs.lemmas.Bool.{and_parts, leb-true}
-use Rattle.colour_tables.specs.Glyphs.{AreBelow, listed, said_of, sum_below}
+use Rattle.colour_tables.specs.ListedGlyphs.{AreBelow, listed, said_of, sum_below}
 use Rattle.colour_tables.specs.LayerLists.{MAX_LAYERS, base_count, bases_of, depth, layers_at, layers_have_room}
 use Rattle.colour_tables.specs.LayerLists.{layers_in, layers_of}
 use Rattle.colour_tables.specs.LayerLists.{layers_offset}

@@ -5,7 +5,7 @@ use Rattle.std.proofs.Common.{arith, inl, inr}
 use Rattle.std.specs.Option.{option_map}
 use Rattle.std.proofs.lemmas.Bool.{cases_Bool}
 use Rattle.std.proofs.lemmas.Option.{none-some, option_and_then_some, same_Some}
-use Rattle.colour_tables.specs.Glyphs.{AreBelow}
+use Rattle.colour_tables.specs.ListedGlyphs.{AreBelow}
 use Rattle.colour_tables.specs.MadePaints.{clip_rows, first_size, forest_bytes, forest_count, forest_layers, forest_of}
 use Rattle.colour_tables.specs.MadePaints.{forest_places, own_count, own_places, place_rows, root_rows, rooted}
 use Rattle.colour_tables.specs.MadePaints.{shape_bytes}

@@ -1,7 +1,7 @@
 -- Laws of colour tables, this project's own, each of them the contract of a function.
 use Rattle.std.specs.Prelude.{◌≡◌, ℕ, ◌+◌, ◌<◌, ◌≤◌, true, List, ◌++◌, length, Option, Some, IfSome}
 use Rattle.sfnt_bytes.specs.Number.{u16_at}
-use Rattle.colour_tables.specs.Glyphs.{AreBelow, listed}
+use Rattle.colour_tables.specs.ListedGlyphs.{AreBelow, listed}
 use Rattle.colour_tables.specs.LayerLists.{has_layer_lists, layers_at, layers_have_room}
 use Rattle.colour_tables.specs.MadeLayers.{layer_header, layer_lists, layer_table}
 use Rattle.colour_tables.specs.MadePaints.{paint_table}

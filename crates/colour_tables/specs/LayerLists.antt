@@ -5,7 +5,7 @@ use Rattle.std.specs.Prelude.{drop, find, length, Option}
 use Rattle.std.specs.List.{list_all}
 use Rattle.std.specs.Option.{option_map, option_map_or}
 use Rattle.sfnt_bytes.specs.Number.{u16_at, u32_at}
-use Rattle.colour_tables.specs.Glyphs.{each_below, sum_below}
+use Rattle.colour_tables.specs.ListedGlyphs.{each_below, sum_below}
 use Rattle.colour_tables.specs.declared.layer.Base.{Base}
 use Rattle.colour_tables.specs.declared.layer.Layer.{Layer}
 

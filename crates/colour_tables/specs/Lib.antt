@@ -1,7 +1,7 @@
-pub mod Glyphs
+pub mod ListedGlyphs
 pub mod Laws
 pub mod LayerLists
-pub mod Links
+pub mod NamedGlyphs
 pub mod MadePaints
 pub mod PaintLists
 pub mod Paints

@@ -1,7 +1,7 @@
 -- The lists of layers that are written (OpenType 1.9, COLR, Header; BaseGlyph and Layer records).
 use Rattle.std.specs.Prelude.{ℕ, ◌+◌, ◌*◌, ◌/◌, ◌%◌, nat_eq, List, [], ◌∷◌, ◌++◌, length, flat_map, if◌then◌else◌}
 use Rattle.std.specs.Prelude.{Option}
-use Rattle.colour_tables.specs.Glyphs.{listed}
+use Rattle.colour_tables.specs.ListedGlyphs.{listed}
 use Rattle.colour_tables.specs.declared.layer.Layer.{Layer}
 
 -- the bytes of numbers (OpenType 1.9, Data Types)

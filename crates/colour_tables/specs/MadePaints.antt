@@ -1,7 +1,7 @@
 -- The table of version 1 that is written: each tree is followed by what its offsets lead to, and nothing is shared
 -- (OpenType 1.9, COLR, Header; BaseGlyphList, LayerList and ClipList tables; Paint tables).
 use Rattle.std.specs.Prelude.{ℕ, suc, ◌+◌, ◌-◌, ◌*◌, nat_eq, List, [], ◌∷◌, ◌++◌, length, if◌then◌else◌}
-use Rattle.colour_tables.specs.Glyphs.{listed}
+use Rattle.colour_tables.specs.ListedGlyphs.{listed}
 use Rattle.colour_tables.specs.MadeLayers.{bytes_of_u16, bytes_of_u24, bytes_of_u32, layer_header, layer_lists}
 use Rattle.colour_tables.specs.MadeLayers.{layer_total, offset_of}
 use Rattle.colour_tables.specs.PaintLists.{Colour, forest_size, tree_size}

@@ -3,7 +3,7 @@ use Rattle.std.specs.Prelude.{ℕ, zero, suc, ◌+◌, ◌*◌, nat_eq, nat_le, 
 use Rattle.std.specs.Prelude.{drop, is_some, length, slice_index, if◌then◌else◌, Option, None, Some}
 use Rattle.std.specs.Option.{option_and_then, option_map_or}
 use Rattle.sfnt_bytes.specs.Number.{u16_at, u32_at}
-use Rattle.colour_tables.specs.Glyphs.{said_of, sum_below}
+use Rattle.colour_tables.specs.ListedGlyphs.{said_of, sum_below}
 use Rattle.colour_tables.specs.LayerLists.{depth, layers_at, layers_have_room}
 use Rattle.colour_tables.specs.Paints.{MAX_DEPTH, Forest, Bare, With, Tree, place_from, shape_size, tree_at, u24_at}
 use Rattle.colour_tables.specs.declared.layer.Layer.{Layer}
