@@ -26,6 +26,18 @@ CutSays way =
 abbrev pub CutsSay : Type 0
 CutsSay = CutSays layer_way × CutSays still_way × CutSays varying_way
 
+-- so a kept glyph names in a cut the glyphs that it names in the font, and any other names none
+abbrev pub NamesOnCut : {W X : Type 0} → Way W X → (X → List ℕ) → Type 0
+NamesOnCut way names =
+    (c : Tables) (t : List ℕ) (keeps : ℕ → Bool) (g : ℕ) → way.divided (glyph_count c) t ≡ true → g < glyph_count c
+    → names (way.said (glyph_count c)
+    ((parting_by way).whole c ((parting_by way).frame c t) (kept_parts (parting_by way) c t keeps)) g)
+    ≡ (if keeps g then names (way.said (glyph_count c) t g) else [])
+
+abbrev pub NamesOnCuts : Type 0
+NamesOnCuts =
+    NamesOnCut layer_way layer_names × NamesOnCut still_way colour_names × NamesOnCut varying_way colour_names
+
 -- two tables say the same of a glyph if they have one part of it
 abbrev pub PartTells : {W X : Type 0} → Way W X → Type 0
 PartTells way =

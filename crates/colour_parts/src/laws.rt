@@ -1,6 +1,6 @@
 //! Laws of colour tables as divided tables: the contract of each function is what it says.
 ghost use Rattle.colour_parts.specs.Laws.{ColourTablesAreDivided, LayerTablesAreDivided, PaintTablesAreDivided};
-ghost use Rattle.colour_parts.specs.Telling.{CutsSay, NamesAreGlyphs, PartsOfOneTableFit, PartsTell};
+ghost use Rattle.colour_parts.specs.Telling.{CutsSay, NamesAreGlyphs, NamesOnCuts, PartsOfOneTableFit, PartsTell};
 ghost use Rattle.colour_parts.specs.Telling.{StillOfVarying, WholesAreBytes, WholesAreMade};
 ghost use Rattle.colour_parts.specs.WorkedColours.{WorkedColoursAre};
 
@@ -52,6 +52,11 @@ pub fn still_of_varying()
 /// The table of parts that come of tables is made of what these tables say.
 pub fn wholes_are_made()
     ensures { WholesAreMade }
+{}
+
+/// A kept glyph names in a cut the glyphs that it names in the font.
+pub fn names_on_cuts()
+    ensures { NamesOnCuts }
 {}
 
 /// What three small tables that fontTools wrote are divided into.
