@@ -1,0 +1,8 @@
+//! Colour tables as code reads them: which are divided, and what they say of a glyph.
+//! OpenType 1.9, COLR.
+#![tactic(auto)]
+
+mod fields;
+mod layer_lists;
+
+pub use crate::layer_lists::is_layer_table;
