@@ -50,7 +50,7 @@ module _ {X : Type 0} where
   rows-long f row size are zero b = ap length (are.none b)
   rows-long f row size are (suc k) b = ap length (are.more k b) ∙ ap suc (rows-long f row size are k (drop size b))
 
-  rows-get : (f : ℕ → List ℕ → List X) (row : List ℕ → X) (size : ℕ) → AreRows f row size
+  pub rows-get : (f : ℕ → List ℕ → List X) (row : List ℕ → X) (size : ℕ) → AreRows f row size
       → (k i : ℕ) (b : List ℕ) (d : X) → i < k → get_or (f k b) i d ≡ row (drop (size * i) b)
   rows-get f row size are zero i b d h = absurd (omega (arith, h))
   rows-get f row size are (suc k) zero b d h =

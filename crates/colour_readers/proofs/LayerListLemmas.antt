@@ -16,6 +16,7 @@ use Rattle.colour_tables.specs.declared.layer.Layer.{Layer}
 use Rattle.colour_tables.proofs.GlyphLemmas.{each-same, sum-same}
 use Rattle.colour_readers.specs.Rooms.{MAX_ROOM, has_layers, is_base, layers_left}
 use Rattle.colour_readers.proofs.FieldLemmas.{AreRows, rows-drop, rows-long, u16-drop}
+use Rattle.colour_readers.proofs.RoomLemmas.{after_both, left_after, no_matter}
 use Rattle.colour_readers.proofs.PickLemmas.{Within, pick, pick_each, pick_sum, same_tests, total}
 
 -- BaseGlyph records are rows, and so are Layer records
@@ -169,29 +170,6 @@ layers_sum n layers from t h =
     ∙ ap (λ o. option_map_or (λ b. length (layers_of t b)) o 0) (found_pick g bs))
     ∙ pick_sum glyph_of glyph_of (λ b. length (layers_of t b)) from n bs (within_bases n layers from bs h)
     ∙ counts-total t bs
-
--- what is left of a room
-abbrev pub left_after : ℕ → ℕ → Option ℕ
-left_after size room = cond (leb size room) (Some (room - size)) None
-
-after_both : (a s room : ℕ) → cond (leb a room) (left_after s (room - a)) None ≡ left_after (a + s) room
-after_both a s room = elim (cases_lt room a) [
-  | inl l ↦
-      ap (λ b. cond b (left_after s (room - a)) None) (lt-leb a room l)
-      ∙ sym (ap (λ b. cond b (Some (room - (a + s))) None) (lt-leb (a + s) room (omega (arith, l))))
-  | inr h ↦
-      let fits : leb s (room - a) ≡ leb (a + s) room =
-      same_tests _ _
-      (λ t. le-leb (a + s) room (omega (arith, h, leb-true s (room - a) t)))
-      (λ t. le-leb s (room - a) (omega (arith, h, leb-true (a + s) room t))) in
-      let left : room - a - s ≡ room - (a + s) = omega arith in
-      ap (λ b. cond b (left_after s (room - a)) None) (le-leb a room h)
-      ∙ (λ i. cond (fits i) (Some (left i)) None)
-]
-
-no_matter : {X : Type 0} (b : Bool) (x : X) → cond b x x ≡ x
-no_matter true x = refl
-no_matter false x = refl
 
 split : (p all : Bool) (a s room : ℕ) (rest : Option ℕ) → rest ≡ cond all (left_after s (room - a)) None
     → cond (p && leb a room) rest None ≡ cond (p && all) (left_after (a + s) room) None

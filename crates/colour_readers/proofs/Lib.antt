@@ -1,3 +1,6 @@
 pub mod FieldLemmas
 pub mod LayerListLemmas
 pub mod PickLemmas
+pub mod RoomLemmas
+pub mod ShapeLemmas
+pub mod TreeLemmas

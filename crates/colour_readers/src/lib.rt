@@ -4,5 +4,7 @@
 
 mod fields;
 mod layer_lists;
+mod shapes;
+mod trees;
 
 pub use crate::layer_lists::is_layer_table;
