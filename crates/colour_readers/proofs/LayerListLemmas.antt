@@ -1,9 +1,9 @@
 -- The lists of layers, as code reads them.
-use Rattle.std.proofs.Common.{◌≡◌, ℕ, zero, suc, ◌+◌, ◌-◌, ◌*◌, ◌<◌, ◌≤◌, true, false, Bool, cond, eqb, leb, ltb, ◌&&◌, List, []}
-use Rattle.std.proofs.Common.{◌∷◌, drop, find, length, Option, None, Some, is_some, refl, sym, ap, subst, ◌∙◌, arith, inl, inr}
+use Rattle.std.proofs.Common.{◌≡◌, ℕ, ◌+◌, ◌-◌, ◌*◌, ◌<◌, ◌≤◌, true, false, Bool, cond, eqb, leb, ltb, ◌&&◌, List, []}
+use Rattle.std.proofs.Common.{◌∷◌, drop, find, length, Option, None, Some, is_some, refl, sym, ap, ◌∙◌, arith}
 use Rattle.std.specs.List.{list_all}
 use Rattle.std.specs.Option.{option_map, option_map_or}
-use Rattle.std.proofs.lemmas.Bool.{and_from, and_left, and_parts, and_right, cases_lt, eq-eqb, eqb-true, le-leb, le-ltb}
+use Rattle.std.proofs.lemmas.Bool.{and_from, and_left, and_parts, and_right, eq-eqb, eqb-true, le-leb, le-ltb}
 use Rattle.std.proofs.lemmas.Bool.{leb-true, lt-leb, lt-ltb, ltb-true}
 use Rattle.std.proofs.lemmas.List.{drop_all}
 use Rattle.sfnt_bytes.specs.Number.{u16_at, u32_at}
@@ -16,7 +16,7 @@ use Rattle.colour_tables.specs.declared.layer.Layer.{Layer}
 use Rattle.colour_tables.proofs.GlyphLemmas.{each-same, sum-same}
 use Rattle.colour_readers.specs.Rooms.{MAX_ROOM, has_layers, is_base, layers_left}
 use Rattle.colour_readers.proofs.FieldLemmas.{AreRows, rows-drop, rows-long, u16-drop}
-use Rattle.colour_readers.proofs.RoomLemmas.{after_both, left_after, no_matter}
+use Rattle.colour_readers.proofs.RoomLemmas.{left_after, split}
 use Rattle.colour_readers.proofs.PickLemmas.{Within, pick, pick_each, pick_sum, same_tests, total}
 
 -- BaseGlyph records are rows, and so are Layer records
@@ -105,7 +105,7 @@ layers-long t b = rows-long layers_in layer_row 4 layers-rows b.count (drop (lay
 abbrev glyph_of : Base → ℕ
 glyph_of b = b.glyph
 
-one_span : (a g : ℕ) → eqb a g ≡ (leb a g && leb g a)
+pub one_span : (a g : ℕ) → eqb a g ≡ (leb a g && leb g a)
 one_span a g =
     same_tests _ _
     (λ t. let e = eqb-true a g t in
@@ -170,12 +170,6 @@ layers_sum n layers from t h =
     ∙ ap (λ o. option_map_or (λ b. length (layers_of t b)) o 0) (found_pick g bs))
     ∙ pick_sum glyph_of glyph_of (λ b. length (layers_of t b)) from n bs (within_bases n layers from bs h)
     ∙ counts-total t bs
-
-split : (p all : Bool) (a s room : ℕ) (rest : Option ℕ) → rest ≡ cond all (left_after s (room - a)) None
-    → cond (p && leb a room) rest None ≡ cond (p && all) (left_after (a + s) room) None
-split false all a s room rest e = refl
-split true false a s room rest e = ap (λ o. cond (leb a room) o None) e ∙ no_matter (leb a room) None
-split true true a s room rest e = ap (λ o. cond (leb a room) o None) e ∙ after_both a s room
 
 is_some_left : (all : Bool) (s room : ℕ) → is_some (cond all (left_after s room) None) ≡ (all && leb s room)
 is_some_left false s room = refl

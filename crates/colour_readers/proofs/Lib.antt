@@ -4,3 +4,4 @@ pub mod PickLemmas
 pub mod RoomLemmas
 pub mod ShapeLemmas
 pub mod TreeLemmas
+pub mod PaintListLemmas

@@ -1,5 +1,5 @@
 -- What is left of a room.
-use Rattle.std.proofs.Common.{◌≡◌, ℕ, ◌+◌, ◌-◌, ◌<◌, ◌≤◌, true, false, Bool, cond, leb, Option, None, Some, refl, sym, ap, ◌∙◌, arith}
+use Rattle.std.proofs.Common.{◌≡◌, ℕ, ◌+◌, ◌-◌, true, false, Bool, cond, leb, ◌&&◌, Option, None, Some, refl, sym, ap, ◌∙◌, arith}
 use Rattle.std.proofs.Common.{inl, inr}
 use Rattle.std.proofs.lemmas.Bool.{cases_lt, le-leb, leb-true, lt-leb}
 use Rattle.colour_readers.proofs.PickLemmas.{same_tests}
@@ -26,3 +26,9 @@ after_both a s room = elim (cases_lt room a) [
 pub no_matter : {X : Type 0} (b : Bool) (x : X) → cond b x x ≡ x
 no_matter true x = refl
 no_matter false x = refl
+
+pub split : (p all : Bool) (a s room : ℕ) (rest : Option ℕ) → rest ≡ cond all (left_after s (room - a)) None
+    → cond (p && leb a room) rest None ≡ cond (p && all) (left_after (a + s) room) None
+split false all a s room rest e = refl
+split true false a s room rest e = ap (λ o. cond (leb a room) o None) e ∙ no_matter (leb a room) None
+split true true a s room rest e = ap (λ o. cond (leb a room) o None) e ∙ after_both a s room

@@ -1,21 +1,21 @@
 -- The fields of what offsets lead to, as code reads them.
-use Rattle.std.proofs.Common.{◌≡◌, ℕ, zero, suc, ◌+◌, ◌-◌, ◌*◌, ◌<◌, ◌≤◌, true, false, Bool, cond, eqb, leb, ltb, not, ◌&&◌, ◌||◌}
+use Rattle.std.proofs.Common.{◌≡◌, ℕ, zero, suc, ◌+◌, ◌-◌, ◌*◌, ◌<◌, ◌≤◌, true, Bool, cond, eqb, ltb, not, ◌||◌}
 use Rattle.std.proofs.Common.{List, [], ◌∷◌, drop, get_or, length, take, Option, None, Some, refl, sym, ap, subst, ◌∙◌, arith, inl}
 use Rattle.std.proofs.Common.{◌⊎◌, inr, slice_get}
 use Rattle.std.specs.List.{list_all}
 use Rattle.std.proofs.lemmas.Option.{none-some, same_Some, slice_get-get_or, slice_get_past}
-use Rattle.std.specs.Option.{option_and_then, option_map, option_map_or}
+use Rattle.std.specs.Option.{option_map_or}
 use Rattle.std.proofs.lemmas.Bool.{and_parts, cases_eq, eq-eqb, ltb-true, ne_eqb}
 use Rattle.std.proofs.lemmas.List.{drop_all, get_or-drop, get_or-take, get_or_past}
 use Rattle.sfnt_bytes.specs.Number.{u16_at, u32_at}
 use Rattle.colour_tables.specs.PaintLists.{count_at, layer_list_offset, layer_places_of, places_in}
-use Rattle.colour_tables.specs.Paints.{Forest, Tree, all_trees, layer_links, links_of, names_glyph, paint_shapes, place_from}
-use Rattle.colour_tables.specs.Paints.{rest_of, shape_of, shape_size, tree_at, tree_of, u24_at}
+use Rattle.colour_tables.specs.Paints.{layer_links, links_of, names_glyph, paint_shapes, place_from}
+use Rattle.colour_tables.specs.Paints.{rest_of, shape_of, shape_size}
 use Rattle.colour_tables.specs.declared.shape.Kind.{Kind}
 use Rattle.colour_tables.specs.declared.shape.Kind.TheVariants.{Affine, ClipBox, ColorLine, Paint}
 use Rattle.colour_tables.specs.declared.shape.Shape.{Shape}
 use Rattle.colour_tables.specs.declared.shape.Shape.TheVariants.{Layers, One, Plain, Two}
-use Rattle.colour_readers.specs.Trees.{glyph_named, is_there, link_at, link_count, names_in, shape_at}
+use Rattle.colour_readers.specs.Trees.{link_at, link_count, names_in}
 use Rattle.colour_readers.proofs.FieldLemmas.{AreRows, rows-get, rows-long, u32-drop}
 
 -- places of layers are rows

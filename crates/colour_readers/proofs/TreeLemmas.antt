@@ -1,14 +1,14 @@
 -- Trees, one step at a time, and what is left of a room after them.
-use Rattle.std.proofs.Common.{◌≡◌, ℕ, zero, suc, ◌+◌, ◌-◌, ◌<◌, ◌≤◌, true, false, Bool, cond, eqb, leb, not, ◌&&◌, List, []}
+use Rattle.std.proofs.Common.{◌≡◌, ℕ, zero, suc, ◌-◌, ◌<◌, ◌≤◌, true, false, Bool, cond, eqb, leb, not, ◌&&◌, List, []}
 use Rattle.std.proofs.Common.{◌∷◌, drop, get_or, length, Option, None, Some, refl, sym, ap, ◌∙◌, arith}
 use Rattle.std.specs.Option.{option_and_then, option_map}
 use Rattle.std.proofs.lemmas.Bool.{false_from_ne_true, le-leb, leb-true}
 use Rattle.colour_tables.specs.PaintLists.{forest_size, tree_size}
-use Rattle.colour_tables.specs.Paints.{Bare, Forest, Tree, With, all_trees, links_of, rest_of, shape_of, shape_size, tree_at}
+use Rattle.colour_tables.specs.Paints.{Bare, Forest, Tree, all_trees, links_of, rest_of, shape_of, shape_size, tree_at}
 use Rattle.colour_tables.specs.Paints.{tree_of, with_tree}
 use Rattle.colour_tables.specs.declared.shape.Kind.{Kind}
 use Rattle.colour_tables.specs.declared.shape.Shape.{Shape}
-use Rattle.colour_readers.specs.Trees.{is_there, names_in, room_left, rooms, shape_at}
+use Rattle.colour_readers.specs.Trees.{is_there, room_left, rooms, shape_at}
 use Rattle.colour_readers.proofs.RoomLemmas.{after_both, left_after, no_matter}
 use Rattle.colour_readers.proofs.ShapeLemmas.{named-same}
 

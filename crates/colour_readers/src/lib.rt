@@ -4,7 +4,9 @@
 
 mod fields;
 mod layer_lists;
+mod paint_lists;
 mod shapes;
 mod trees;
 
 pub use crate::layer_lists::is_layer_table;
+pub use crate::paint_lists::is_paint_table;

@@ -1,4 +1,4 @@
-use Rattle.std.proofs.Common.{arith, ap, subst, sym, ◌∙◌, ◌≤◌, ◌<◌}
+use Rattle.std.proofs.Common.{arith, ap, ◌∙◌}
 use Rattle.colour_tables.specs.PaintLists.{count_at}
 use Rattle.colour_tables.specs.Paints.{place_from}
 use Rattle.colour_readers.proofs.ShapeLemmas.{place_past, place_there}
