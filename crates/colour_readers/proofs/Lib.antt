@@ -5,3 +5,4 @@ pub mod RoomLemmas
 pub mod ShapeLemmas
 pub mod TreeLemmas
 pub mod PaintListLemmas
+pub mod RowLemmas

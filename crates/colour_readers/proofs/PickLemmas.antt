@@ -79,7 +79,7 @@ module _ {X : Type 0} where
   total first last w [] = 0
   total first last w (x ∷ xs) = (last x + 1 - first x) * w x + total first last w xs
 
-  pick-before : (first last : X → ℕ) (from n g : ℕ) (xs : List X) → Within first last from n xs → g < from
+  pub pick-before : (first last : X → ℕ) (from n g : ℕ) (xs : List X) → Within first last from n xs → g < from
       → pick first last g xs ≡ None
   pick-before first last from n g [] h l = refl
   pick-before first last from n g (x ∷ xs) h l =

@@ -14,7 +14,7 @@ pub(crate) fn byte_at(b: &[u8], at: usize) -> u8
 /// Returns the big-endian `u16` at a place.
 #[tactic(auto, unfolding(sfnt_bytes::specs::Number::u16_at))]
 pub(crate) fn u16_at(b: &[u8], at: usize) -> u16
-    requires { at < 2 ^ 40 }
+    requires { at < 2 ^ 50 }
     ensures { result ≡ u16_at b.now at }
 {
     u16::from(byte_at(b, at)) * 256 + u16::from(byte_at(b, at + 1))
@@ -23,7 +23,7 @@ pub(crate) fn u16_at(b: &[u8], at: usize) -> u16
 /// Returns the big-endian `u24` at a place.
 #[tactic(auto, unfolding(colour_tables::specs::Paints::u24_at))]
 pub(crate) fn u24_at(b: &[u8], at: usize) -> u32
-    requires { at < 2 ^ 40 }
+    requires { at < 2 ^ 50 }
     ensures value { result ≡ u24_at b.now at }
     ensures small { result < 2 ^ 24 }
 {
@@ -35,7 +35,7 @@ pub(crate) fn u24_at(b: &[u8], at: usize) -> u32
 /// Returns the big-endian `u32` at a place.
 #[tactic(auto, unfolding(sfnt_bytes::specs::Number::u32_at))]
 pub(crate) fn u32_at(b: &[u8], at: usize) -> u32
-    requires { at < 2 ^ 40 }
+    requires { at < 2 ^ 50 }
     ensures { result ≡ u32_at b.now at }
 {
     u32::from(byte_at(b, at)) * 16_777_216

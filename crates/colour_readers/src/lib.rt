@@ -5,6 +5,7 @@
 mod fields;
 mod layer_lists;
 mod paint_lists;
+mod rows;
 mod shapes;
 mod trees;
 
