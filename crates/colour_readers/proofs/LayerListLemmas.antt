@@ -20,10 +20,10 @@ use Rattle.colour_readers.proofs.RoomLemmas.{left_after, split}
 use Rattle.colour_readers.proofs.PickLemmas.{Within, pick, pick_each, pick_sum, same_tests, total}
 
 -- BaseGlyph records are rows, and so are Layer records
-abbrev base_row : List ℕ → Base
+abbrev pub base_row : List ℕ → Base
 base_row b = record { glyph = u16_at b 0; first = u16_at b 2; count = u16_at b 4 }
 
-bases-rows : AreRows bases_in base_row 6
+pub bases-rows : AreRows bases_in base_row 6
 bases-rows = record { none = λ b. refl; more = λ k b. refl }
 
 abbrev layer_row : List ℕ → Layer
@@ -32,7 +32,7 @@ layer_row b = record { glyph = u16_at b 0; palette_entry = u16_at b 2 }
 layers-rows : AreRows layers_in layer_row 4
 layers-rows = record { none = λ b. refl; more = λ k b. refl }
 
-far : (t : List ℕ) (from more i j at : ℕ) → from + more + j ≡ at → u16_at (drop more (drop from t)) j ≡ u16_at t at
+pub far : (t : List ℕ) (from more i j at : ℕ) → from + more + j ≡ at → u16_at (drop more (drop from t)) j ≡ u16_at t at
 far t from more i j at e =
     u16-drop (drop from t) more j (more + j) refl ∙ u16-drop t from (more + j) at (omega (arith, e))
 
@@ -102,7 +102,7 @@ unfolding layers_of
 layers-long t b = rows-long layers_in layer_row 4 layers-rows b.count (drop (layers_offset t + 4 * b.first) t)
 
 -- what base glyphs are found
-abbrev glyph_of : Base → ℕ
+abbrev pub glyph_of : Base → ℕ
 glyph_of b = b.glyph
 
 pub one_span : (a g : ℕ) → eqb a g ≡ (leb a g && leb g a)
@@ -113,14 +113,14 @@ one_span a g =
     (λ t. let both = and_parts (leb a g) (leb g a) t in
     eq-eqb a g (omega (arith, leb-true a g both.0, leb-true g a both.1)))
 
-found_pick : (g : ℕ) (bs : List Base) → find (λ b. eqb b.glyph g) bs ≡ pick glyph_of glyph_of g bs
+pub found_pick : (g : ℕ) (bs : List Base) → find (λ b. eqb b.glyph g) bs ≡ pick glyph_of glyph_of g bs
 found_pick g [] = refl
 found_pick g (b ∷ bs) =
     let test = one_span b.glyph g in
     let rest = found_pick g bs in
     λ i. cond (test i) (Some b) (rest i)
 
-within_bases : (n layers from : ℕ) (bs : List Base) → are_bases n layers from bs ≡ true
+pub within_bases : (n layers from : ℕ) (bs : List Base) → are_bases n layers from bs ≡ true
     → Within glyph_of glyph_of from n bs
 within_bases n layers from [] t = tt
 within_bases n layers from (b ∷ bs) t =

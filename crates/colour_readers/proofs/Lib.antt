@@ -6,3 +6,4 @@ pub mod ShapeLemmas
 pub mod TreeLemmas
 pub mod PaintListLemmas
 pub mod RowLemmas
+pub mod TableLemmas

@@ -25,16 +25,16 @@ use Rattle.colour_readers.proofs.PickLemmas.{Within, is_in, pick, pick_sum, same
 use Rattle.colour_readers.proofs.RoomLemmas.{left_after, split}
 
 -- BaseGlyphPaintRecords and Clips are rows
-abbrev root_row : ℕ → List ℕ → ℕ × ℕ
+abbrev pub root_row : ℕ → List ℕ → ℕ × ℕ
 root_row at b = (u16_at b 0, place_from at (u32_at b 2))
 
-roots-rows : (at : ℕ) → AreRows (roots_in at) (root_row at) 6
+pub roots-rows : (at : ℕ) → AreRows (roots_in at) (root_row at) 6
 roots-rows at = record { none = λ b. refl; more = λ k b. refl }
 
-abbrev clip_row : ℕ → List ℕ → Clip
+abbrev pub clip_row : ℕ → List ℕ → Clip
 clip_row at b = record { first = u16_at b 0; last = u16_at b 2; place = place_from at (u24_at b 4) }
 
-clips-rows : (at : ℕ) → AreRows (clips_in at) (clip_row at) 7
+pub clips-rows : (at : ℕ) → AreRows (clips_in at) (clip_row at) 7
 clips-rows at = record { none = λ b. refl; more = λ k b. refl }
 
 pub root_there : (t : List ℕ) (i at g offset place : ℕ) → i < count_at t (u32_at t 14) 0 → at ≡ u32_at t 14 + 4 + 6 * i
@@ -151,7 +151,7 @@ clips_left_is n t room from (c ∷ cs) =
     (left_after (m + clips_size n t cs) room) None) (times_size box count)
 
 -- what glyphs have in all
-within_roots : (n from : ℕ) (t : List ℕ) (rs : List (ℕ × ℕ)) → are_roots n t from rs ≡ true
+pub within_roots : (n from : ℕ) (t : List ℕ) (rs : List (ℕ × ℕ)) → are_roots n t from rs ≡ true
     → Within (λ r. r.0) (λ r. r.0) from n rs
 within_roots n from t [] h = tt
 within_roots n from t (r ∷ rs) h =
@@ -160,7 +160,7 @@ within_roots n from t (r ∷ rs) h =
     let few = and_parts (leb from r.0) (ltb r.0 n) some.0 in
     (leb-true from r.0 few.0, omega arith, ltb-true r.0 n few.1, within_roots n (r.0 + 1) t rs all.1)
 
-within_clips : (n from : ℕ) (t : List ℕ) (cs : List Clip) → are_clips n t from cs ≡ true
+pub within_clips : (n from : ℕ) (t : List ℕ) (cs : List Clip) → are_clips n t from cs ≡ true
     → Within (λ c. c.first) (λ c. c.last) from n cs
 within_clips n from t [] h = tt
 within_clips n from t (c ∷ cs) h =

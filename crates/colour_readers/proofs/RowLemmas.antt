@@ -1,12 +1,12 @@
 -- Rows in order of their glyphs, and what a search for a glyph finds.
-use Rattle.std.proofs.Common.{◌≡◌, ℕ, zero, suc, ◌+◌, ◌<◌, ◌≤◌, true, false, Bool, cond, leb, ltb, ◌&&◌, ◌||◌, List, []}
-use Rattle.std.proofs.Common.{◌∷◌, get_or, length, Option, None, Some, is_some, refl, sym, ap, subst, ◌∙◌, arith, inl, inr}
+use Rattle.std.proofs.Common.{◌≡◌, ℕ, zero, suc, ◌+◌, ◌<◌, ◌≤◌, true, false, Bool, cond, leb, ltb, ◌&&◌, List, []}
+use Rattle.std.proofs.Common.{◌∷◌, get_or, length, Some, is_some, sym, ap, subst, ◌∙◌, arith, inl, inr}
 use Rattle.std.proofs.lemmas.Bool.{and_from, and_left, and_right, cases_lt, le-leb, le-ltb, leb-true, lt-leb, lt-ltb, or_cases}
-use Rattle.codes.specs.Order.{Ascends, AreInOrder, IsFirstReaching}
+use Rattle.codes.specs.Order.{Ascends, AreInOrder}
 use Rattle.codes.proofs.OrderLemmas.{in_order_above, in_order_ascends}
 use Rattle.colour_readers.specs.RowsOf.{IsReached, LiesPast, row_first, row_last}
 use Rattle.colour_readers.specs.declared.rows.Rows.{Rows}
-use Rattle.colour_readers.proofs.PickLemmas.{Within, is_in, pick, pick-before}
+use Rattle.colour_readers.proofs.PickLemmas.{Within, pick, pick-before}
 
 module _ {X : Type 0} where
   in_order : (first last : X → ℕ) (from n : ℕ) (xs : List X) → Within first last from n xs → AreInOrder first last from xs

@@ -1,5 +1,5 @@
 -- Words of private contracts and of proofs: no public clause names them.
-use Rattle.std.specs.Prelude.{◌≡◌, ℕ, ◌+◌, ◌*◌, nat_le, nat_lt, Bool, ◌&&◌, ◌||◌}
+use Rattle.std.specs.Prelude.{◌≡◌, ℕ, ◌+◌, ◌*◌, nat_le, nat_lt, Bool, ◌&&◌, ◌||◌, List}
 use Rattle.sfnt_bytes.specs.Number.{u16_at}
 use Rattle.codes.specs.Order.{IsFirstReaching}
 use Rattle.colour_readers.specs.declared.rows.Rows.{Rows}
@@ -24,3 +24,12 @@ IsReached r g b =
 abbrev pub LiesPast : Rows → ℕ → ℕ → Bool → Type 0
 LiesPast r from to b =
     (i : ℕ) × IsFirstReaching (row_last r) r.count from i × (b ≡ (nat_le r.count i || nat_le to (row_first r i)))
+
+-- rows of bytes stand so
+pub record AreRowsAt (t : List ℕ) (list before size last count : ℕ) (r : Rows) : Type 0 where
+  pub bytes_are : r.bytes.now ≡ t
+  pub list_is : r.list ≡ list
+  pub before_is : r.before ≡ before
+  pub size_is : r.size ≡ size
+  pub last_is : r.last ≡ last
+  pub count_is : r.count ≡ count

@@ -7,7 +7,9 @@ mod layer_lists;
 mod paint_lists;
 mod rows;
 mod shapes;
+mod tables;
 mod trees;
 
 pub use crate::layer_lists::is_layer_table;
 pub use crate::paint_lists::is_paint_table;
+pub use crate::tables::{LayerTable, PaintTable};

@@ -1,0 +1,217 @@
+//! Colour tables that are open. OpenType 1.9, COLR.
+ghost use Rattle.std.specs.Prelude.{◌≡◌, ◌<◌, ◌≤◌, ℕ, IsTrue, MatchOption, true, false, is_some};
+ghost use Rattle.sfnt_bytes.specs.Number.{u32_at};
+ghost use Rattle.colour_tables.specs.LayerLists.{base_count, has_layer_lists, layers_at};
+ghost use Rattle.colour_tables.specs.PaintLists.{box_at, colour_at, count_at, has_paint_lists, paint_at};
+ghost use Rattle.colour_parts.specs.LayerTables.{is_layer_table};
+ghost use Rattle.colour_parts.specs.PaintTables.{has_colour, is_paint_table};
+ghost use Rattle.colour_readers.specs.RowsOf.{AreRowsAt};
+
+use crate::fields::{u16_at, u32_at};
+use crate::layer_lists::is_layer_table;
+use crate::paint_lists::is_paint_table;
+use crate::rows::{Rows, has_no_row, has_row};
+use crate::shapes::count_at;
+use std::marker::Model;
+
+// Returns the BaseGlyph records.
+#[tactic(auto, unfolding(colour_tables::specs::LayerLists::base_count))]
+fn base_rows(t: &[u8]) -> Rows<'_>
+    ensures { AreRowsAt t.now (u32_at t.now 4) 0 6 0 (base_count t.now) result }
+{
+    Rows {
+        bytes: t,
+        list: u32_at(t, 4),
+        before: 0,
+        size: 6,
+        last: 0,
+        count: u32::from(u16_at(t, 2)),
+    }
+}
+
+// Returns the BaseGlyphPaintRecords.
+fn root_rows(t: &[u8]) -> Rows<'_>
+    ensures { AreRowsAt t.now (u32_at t.now 14) 4 6 0 (count_at t.now (u32_at t.now 14) 0) result }
+{
+    let list = u32_at(t, 14);
+    Rows {
+        bytes: t,
+        list,
+        before: 4,
+        size: 6,
+        last: 0,
+        count: count_at(t, list, 0),
+    }
+}
+
+// Returns the Clips.
+fn clip_rows(t: &[u8]) -> Rows<'_>
+    ensures { AreRowsAt t.now (u32_at t.now 22) 5 7 2 (count_at t.now (u32_at t.now 22) 1) result }
+{
+    let list = u32_at(t, 22);
+    Rows {
+        bytes: t,
+        list,
+        before: 5,
+        size: 7,
+        last: 2,
+        count: count_at(t, list, 1),
+    }
+}
+
+// Returns whether a table says of a glyph which layers it has.
+fn has_layers(t: &[u8], g: u16) -> bool
+    requires { (n : ℕ) × (has_layer_lists n t.now ≡ true) }
+    ensures { result ≡ is_some (layers_at t.now g) }
+{
+    let rows = base_rows(t);
+    has_row(&rows, g)
+}
+
+// Returns whether a table surely says of no glyph, from one on and below another, which layers it has.
+fn has_no_layers(t: &[u8], from: u16, to: u16) -> bool
+    requires { (n : ℕ) × (has_layer_lists n t.now ≡ true) }
+    ensures { IsTrue result → (g : ℕ) → from ≤ g → g < to → is_some (layers_at t.now g) ≡ false }
+{
+    let rows = base_rows(t);
+    has_no_row(&rows, from, to)
+}
+
+// Returns whether a table says of a glyph which paint it has.
+fn has_paint(t: &[u8], g: u16) -> bool
+    requires { (n : ℕ) × (has_paint_lists n t.now ≡ true) }
+    ensures { (n : ℕ) → has_paint_lists n t.now ≡ true → result ≡ is_some (paint_at n t.now g) }
+{
+    let rows = root_rows(t);
+    has_row(&rows, g)
+}
+
+// Returns whether a table surely says of no glyph, from one on and below another, which paint it has.
+fn has_no_paint(t: &[u8], from: u16, to: u16) -> bool
+    requires { (n : ℕ) × (has_paint_lists n t.now ≡ true) }
+    ensures { IsTrue result → (n g : ℕ) → has_paint_lists n t.now ≡ true → from ≤ g → g < to →
+        is_some (paint_at n t.now g) ≡ false }
+{
+    let rows = root_rows(t);
+    has_no_row(&rows, from, to)
+}
+
+// Returns whether a table says of a glyph which clip box it has.
+fn has_box(t: &[u8], g: u16) -> bool
+    requires { (n : ℕ) × (has_paint_lists n t.now ≡ true) }
+    ensures { (n : ℕ) → has_paint_lists n t.now ≡ true → result ≡ is_some (box_at n t.now g) }
+{
+    let rows = clip_rows(t);
+    has_row(&rows, g)
+}
+
+// Returns whether a table surely says of no glyph, from one on and below another, which clip box it has.
+fn has_no_box(t: &[u8], from: u16, to: u16) -> bool
+    requires { (n : ℕ) × (has_paint_lists n t.now ≡ true) }
+    ensures { IsTrue result → (n g : ℕ) → has_paint_lists n t.now ≡ true → from ≤ g → g < to →
+        is_some (box_at n t.now g) ≡ false }
+{
+    let rows = clip_rows(t);
+    has_no_row(&rows, from, to)
+}
+
+/// A colour table of version 0 that is divided.
+#[derive(Drop)]
+pub struct LayerTable<'t> {
+    bytes: &'t [u8],
+    count: u16,
+}
+
+// Its value is its bytes, and the number of glyphs.
+impl<'t> Model for LayerTable<'t> {
+    ghost use Rattle.std.specs.Prelude.{◌≡◌, ℕ, List, true};
+    ghost use Rattle.colour_parts.specs.LayerTables.{is_layer_table};
+
+    ghost Value = { List ℕ × ℕ };
+
+    ghost view = { λ t. (t.bytes.now, t.count) };
+
+    ghost invariant = { λ t. is_layer_table t.count t.bytes.now ≡ true };
+}
+
+impl<'t> LayerTable<'t> {
+    /// Opens a table among so many glyphs, if it is of version 0, and divided.
+    pub fn open(bytes: &'t [u8], count: u16) -> Option<LayerTable<'t>>
+        ensures { MatchOption result (is_layer_table count bytes.now ≡ false) (λ t. t ≡ (bytes.now, count)) }
+    {
+        if !is_layer_table(bytes, count) {
+            return None;
+        }
+        Some(LayerTable { bytes, count })
+    }
+
+    /// Returns whether anything is said of a glyph.
+    #[tactic(auto, unfolding(colour_parts::specs::LayerTables::is_layer_table))]
+    pub fn has(&self, g: u16) -> bool
+        ensures { result ≡ is_some (layers_at self.now.0 g) }
+    {
+        has_layers(self.bytes, g)
+    }
+
+    /// Returns whether surely nothing is said of glyphs from one on and below another.
+    #[tactic(auto, unfolding(colour_parts::specs::LayerTables::is_layer_table))]
+    pub fn has_none(&self, from: u16, to: u16) -> bool
+        ensures { IsTrue result → (g : ℕ) → from ≤ g → g < to → is_some (layers_at self.now.0 g) ≡ false }
+    {
+        has_no_layers(self.bytes, from, to)
+    }
+}
+
+/// A colour table of version 1 that is divided.
+#[derive(Drop)]
+pub struct PaintTable<'t> {
+    bytes: &'t [u8],
+    count: u16,
+}
+
+// Its value is its bytes, and the number of glyphs.
+impl<'t> Model for PaintTable<'t> {
+    ghost use Rattle.std.specs.Prelude.{◌≡◌, ℕ, List, true};
+    ghost use Rattle.colour_parts.specs.PaintTables.{is_paint_table};
+
+    ghost Value = { List ℕ × ℕ };
+
+    ghost view = { λ t. (t.bytes.now, t.count) };
+
+    ghost invariant = { λ t. is_paint_table t.count t.bytes.now ≡ true };
+}
+
+impl<'t> PaintTable<'t> {
+    /// Opens a table among so many glyphs, if it is of version 1, and divided.
+    pub fn open(bytes: &'t [u8], count: u16) -> Option<PaintTable<'t>>
+        ensures { MatchOption result (is_paint_table count bytes.now ≡ false) (λ t. t ≡ (bytes.now, count)) }
+    {
+        if !is_paint_table(bytes, count) {
+            return None;
+        }
+        Some(PaintTable { bytes, count })
+    }
+
+    /// Returns whether anything is said of a glyph.
+    #[tactic(auto, unfolding(colour_parts::specs::PaintTables::is_paint_table))]
+    pub fn has(&self, g: u16) -> bool
+        ensures { result ≡ has_colour (colour_at self.now.1 self.now.0 g) }
+    {
+        let layers = has_layers(self.bytes, g);
+        let paint = has_paint(self.bytes, g);
+        let clip = has_box(self.bytes, g);
+        layers || paint || clip
+    }
+
+    /// Returns whether surely nothing is said of glyphs from one on and below another.
+    #[tactic(auto, unfolding(colour_parts::specs::PaintTables::is_paint_table))]
+    pub fn has_none(&self, from: u16, to: u16) -> bool
+        ensures { IsTrue result → (g : ℕ) → from ≤ g → g < to →
+            has_colour (colour_at self.now.1 self.now.0 g) ≡ false }
+    {
+        let layers = has_no_layers(self.bytes, from, to);
+        let paint = has_no_paint(self.bytes, from, to);
+        let clip = has_no_box(self.bytes, from, to);
+        layers && paint && clip
+    }
+}
