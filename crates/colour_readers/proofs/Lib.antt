@@ -7,3 +7,4 @@ pub mod TreeLemmas
 pub mod PaintListLemmas
 pub mod RowLemmas
 pub mod TableLemmas
+pub mod SameLemmas

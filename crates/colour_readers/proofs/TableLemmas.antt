@@ -2,7 +2,9 @@
 use Rattle.std.proofs.Common.{◌≡◌, ℕ, ◌+◌, ◌*◌, ◌<◌, ◌≤◌, true, false, Bool, cond, eqb, List, [], ◌∷◌}
 use Rattle.std.proofs.Common.{drop, get_or, find, Option, None, Some, is_some, refl, sym, ap, ◌∙◌, arith}
 use Rattle.std.specs.Option.{option_and_then, option_map}
-use Rattle.std.proofs.lemmas.Bool.{and_parts}
+use Rattle.std.proofs.lemmas.Bool.{and_parts, cond_both}
+use Rattle.std.proofs.Common.{IfSome, subst}
+use Rattle.std.proofs.lemmas.List.{get_or-drop}
 use Rattle.sfnt_bytes.specs.Number.{u16_at, u32_at}
 use Rattle.codes.specs.Order.{Ascends}
 use Rattle.colour_tables.specs.LayerLists.{are_bases, base_count, bases_in, bases_of, bases_offset, has_layer_lists, layer_count}
@@ -12,13 +14,13 @@ use Rattle.colour_tables.specs.PaintLists.{Clip, are_clips, are_roots, base_list
 use Rattle.colour_tables.specs.PaintLists.{clips_in, clips_of, count_at, has_paint_lists, paint_at, roots_in, roots_of, tree_in}
 use Rattle.colour_tables.specs.declared.layer.Base.{Base}
 use Rattle.colour_tables.specs.declared.shape.Kind.TheVariants.{ClipBox, Paint}
-use Rattle.colour_readers.specs.RowsOf.{AreRowsAt, IsReached, LiesPast, row_first, row_last}
+use Rattle.colour_readers.specs.RowsOf.{AreRowsAt, IsReached, IsRowOf, LiesPast, row_first, row_last}
 use Rattle.colour_readers.specs.declared.rows.Rows.{Rows}
 use Rattle.colour_readers.proofs.FieldLemmas.{rows-get, rows-long}
 use Rattle.colour_readers.proofs.LayerListLemmas.{base_row, bases-rows, far, found_pick, glyph_of, one_span, within_bases}
 use Rattle.colour_readers.proofs.PaintListLemmas.{clip_row, clips-rows, root_row, roots-rows, within_clips, within_roots}
 use Rattle.colour_readers.proofs.PickLemmas.{is_in, pick}
-use Rattle.colour_readers.proofs.RowLemmas.{AreRowsOf, rows_ascend, rows_past, rows_reached}
+use Rattle.colour_readers.proofs.RowLemmas.{AreRowsOf, no_row, row_found, rows_ascend, rows_past, rows_reached}
 
 first_at : (t : List ℕ) (list before size last count i : ℕ) (r : Rows) → AreRowsAt t list before size last count r
     → row_first r i ≡ u16_at t (list + before + size * i)
@@ -207,3 +209,110 @@ pub box_past : (n : ℕ) (t : List ℕ) (r : Rows) (from to : ℕ) (b : Bool) �
 box_past n t r from to b h at is e g low high =
     box_picked n t g h
     ∙ rows_past r clip_first clip_last no_clip n from to (clips_of t) b (clips_are n t r h at) is e g low high
+
+-- places of paints and of clip boxes
+said_is : (g : ℕ) (rs : List (ℕ × ℕ)) → said_of g rs ≡ option_map (λ r. r.1) (pick root_glyph root_glyph g rs)
+said_is g [] = refl
+said_is g (r ∷ rs) =
+    ap (λ b. cond b (Some r.1) (said_of g rs)) (one_span r.0 g) ∙ by_test (is_in r.0 r.0 g) (said_is g rs)
+  where
+    by_test : (b : Bool) → said_of g rs ≡ option_map (λ r. r.1) (pick root_glyph root_glyph g rs)
+        → cond b (Some r.1) (said_of g rs)
+        ≡ option_map (λ r. r.1) (cond b (Some r) (pick root_glyph root_glyph g rs))
+    by_test true e = refl
+    by_test false e = e
+
+clip_is : (g : ℕ) (cs : List Clip) → clip_place g cs ≡ option_map (λ c. c.place) (pick clip_first clip_last g cs)
+clip_is g [] = refl
+clip_is g (c ∷ cs) = by_test (is_in c.first c.last g) (clip_is g cs)
+  where
+    by_test : (b : Bool) → clip_place g cs ≡ option_map (λ c. c.place) (pick clip_first clip_last g cs)
+        → cond b (Some c.place) (clip_place g cs)
+        ≡ option_map (λ c. c.place) (cond b (Some c) (pick clip_first clip_last g cs))
+    by_test true e = refl
+    by_test false e = e
+
+get_first : {X : Type 0} (xs rest : List X) (i : ℕ) (x d : X) → drop i xs ≡ x ∷ rest → get_or xs i d ≡ x
+get_first xs rest i x d e =
+    let same : i ≡ i + 0 = omega arith in
+    ap (λ (k : ℕ). get_or xs k d) same ∙ sym (get_or-drop i xs 0 d) ∙ ap (λ ys. get_or ys 0 d) e
+
+pub paint_placed : (n : ℕ) (t : List ℕ) (r : Rows) (g i glyph place : ℕ) (rest : List (ℕ × ℕ)) → has_paint_lists n t ≡ true
+    → AreRowsAt t (u32_at t 14) 4 6 0 (count_at t (u32_at t 14) 0) r → IsRowOf r g i
+    → drop i (roots_of t) ≡ (glyph, place) ∷ rest → Some place ≡ said_of g (roots_of t)
+paint_placed n t r g i glyph place rest h at is e =
+    sym (said_is g (roots_of t)
+    ∙ ap (option_map (λ r. r.1)) (row_found r root_glyph root_glyph (0, 0) n g i (roots_of t) (roots_are n t r h at) is)
+    ∙ ap (λ (x : ℕ × ℕ). Some x.1) (get_first (roots_of t) rest i (glyph, place) (0, 0) e))
+
+pub paint_nowhere : (n : ℕ) (t : List ℕ) (r : Rows) (g : ℕ) → has_paint_lists n t ≡ true
+    → AreRowsAt t (u32_at t 14) 4 6 0 (count_at t (u32_at t 14) 0) r → IsReached r g false
+    → None ≡ said_of g (roots_of t)
+paint_nowhere n t r g h at is =
+    sym (said_is g (roots_of t)
+    ∙ ap (option_map (λ r. r.1)) (no_row r root_glyph root_glyph (0, 0) n g (roots_of t) (roots_are n t r h at) is))
+
+pub box_placed : (n : ℕ) (t : List ℕ) (r : Rows) (g i : ℕ) (c : Clip) (rest : List Clip) → has_paint_lists n t ≡ true
+    → AreRowsAt t (u32_at t 22) 5 7 2 (count_at t (u32_at t 22) 1) r → IsRowOf r g i
+    → drop i (clips_of t) ≡ c ∷ rest → Some c.place ≡ clip_place g (clips_of t)
+box_placed n t r g i c rest h at is e =
+    sym (clip_is g (clips_of t)
+    ∙ ap (option_map (λ c. c.place)) (row_found r clip_first clip_last no_clip n g i (clips_of t) (clips_are n t r h at) is)
+    ∙ ap (λ (x : Clip). Some x.place) (get_first (clips_of t) rest i c no_clip e))
+
+pub box_nowhere : (n : ℕ) (t : List ℕ) (r : Rows) (g : ℕ) → has_paint_lists n t ≡ true
+    → AreRowsAt t (u32_at t 22) 5 7 2 (count_at t (u32_at t 22) 1) r → IsReached r g false
+    → None ≡ clip_place g (clips_of t)
+box_nowhere n t r g h at is =
+    sym (clip_is g (clips_of t)
+    ∙ ap (option_map (λ c. c.place)) (no_row r clip_first clip_last no_clip n g (clips_of t) (clips_are n t r h at) is))
+
+-- what is at these places is read
+paint_read : (n : ℕ) (t : List ℕ) (g : ℕ) → has_paint_lists n t ≡ true
+    → IfSome (said_of g (roots_of t)) (λ x. is_some (tree_in n t Paint x) ≡ true)
+unfolding has_paint_lists
+paint_read n t g h =
+    let all = and_parts _ (are_clips n t 0 (clips_of t)) h in
+    go 0 (roots_of t) (and_parts _ (are_roots n t 0 (roots_of t)) all.0).1
+  where
+    go : (from : ℕ) (rs : List (ℕ × ℕ)) → are_roots n t from rs ≡ true
+        → IfSome (said_of g rs) (λ x. is_some (tree_in n t Paint x) ≡ true)
+    go from [] e = tt
+    go from (r ∷ rs) e =
+        let all = and_parts _ (are_roots n t (r.0 + 1) rs) e in
+        cond_both (eqb r.0 g) (Some r.1) (said_of g rs) (λ o. IfSome o (λ x. is_some (tree_in n t Paint x) ≡ true))
+        (λ _. (and_parts _ (is_some (tree_in n t Paint r.1)) all.0).1) (λ _. go (r.0 + 1) rs all.1)
+
+box_read : (n : ℕ) (t : List ℕ) (g : ℕ) → has_paint_lists n t ≡ true
+    → IfSome (clip_place g (clips_of t)) (λ x. is_some (tree_in n t ClipBox x) ≡ true)
+unfolding has_paint_lists
+box_read n t g h = go 0 (clips_of t) (and_parts _ (are_clips n t 0 (clips_of t)) h).1
+  where
+    go : (from : ℕ) (cs : List Clip) → are_clips n t from cs ≡ true
+        → IfSome (clip_place g cs) (λ x. is_some (tree_in n t ClipBox x) ≡ true)
+    go from [] e = tt
+    go from (c ∷ cs) e =
+        let all = and_parts _ (are_clips n t (c.last + 1) cs) e in
+        cond_both (is_in c.first c.last g) (Some c.place) (clip_place g cs)
+        (λ o. IfSome o (λ x. is_some (tree_in n t ClipBox x) ≡ true))
+        (λ _. (and_parts _ (is_some (tree_in n t ClipBox c.place)) all.0).1) (λ _. go (c.last + 1) cs all.1)
+
+pub paint_by : (n : ℕ) (t : List ℕ) (g : ℕ) (at : Option ℕ) → at ≡ said_of g (roots_of t)
+    → option_and_then (tree_in n t Paint) at ≡ paint_at n t g
+unfolding paint_at
+paint_by n t g at e = ap (option_and_then (tree_in n t Paint)) e
+
+pub box_by : (n : ℕ) (t : List ℕ) (g : ℕ) (at : Option ℕ) → at ≡ clip_place g (clips_of t)
+    → option_and_then (tree_in n t ClipBox) at ≡ box_at n t g
+unfolding box_at
+box_by n t g at e = ap (option_and_then (tree_in n t ClipBox)) e
+
+pub paint_read_at : (n : ℕ) (t : List ℕ) (g : ℕ) (at : Option ℕ) → has_paint_lists n t ≡ true
+    → at ≡ said_of g (roots_of t) → IfSome at (λ x. is_some (tree_in n t Paint x) ≡ true)
+paint_read_at n t g at h e =
+    subst (λ (o : Option ℕ). IfSome o (λ x. is_some (tree_in n t Paint x) ≡ true)) (sym e) (paint_read n t g h)
+
+pub box_read_at : (n : ℕ) (t : List ℕ) (g : ℕ) (at : Option ℕ) → has_paint_lists n t ≡ true
+    → at ≡ clip_place g (clips_of t) → IfSome at (λ x. is_some (tree_in n t ClipBox x) ≡ true)
+box_read_at n t g at h e =
+    subst (λ (o : Option ℕ). IfSome o (λ x. is_some (tree_in n t ClipBox x) ≡ true)) (sym e) (box_read n t g h)

@@ -1,5 +1,5 @@
 -- Words of private contracts and of proofs: no public clause names them.
-use Rattle.std.specs.Prelude.{◌≡◌, ℕ, ◌+◌, ◌*◌, nat_le, nat_lt, Bool, ◌&&◌, ◌||◌, List}
+use Rattle.std.specs.Prelude.{◌≡◌, ◌<◌, ◌≤◌, ℕ, ◌+◌, ◌*◌, nat_le, nat_lt, Bool, ◌&&◌, ◌||◌, List}
 use Rattle.sfnt_bytes.specs.Number.{u16_at}
 use Rattle.codes.specs.Order.{IsFirstReaching}
 use Rattle.colour_readers.specs.declared.rows.Rows.{Rows}
@@ -19,6 +19,12 @@ row_last r i = u16_at r.bytes.now (place_of r i + r.last)
 abbrev pub IsReached : Rows → ℕ → Bool → Type 0
 IsReached r g b =
     (i : ℕ) × IsFirstReaching (row_last r) r.count g i × (b ≡ (nat_lt i r.count && nat_le (row_first r i) g))
+
+-- a row is the first that ends at a glyph or above it, and begins there or below
+pub record IsRowOf (r : Rows) (g i : ℕ) : Type 0 where
+  pub reached : IsFirstReaching (row_last r) r.count g i
+  pub inside : i < r.count
+  pub begins : row_first r i ≤ g
 
 -- whether it begins at another glyph or above, or there is none
 abbrev pub LiesPast : Rows → ℕ → ℕ → Bool → Type 0

@@ -1,10 +1,10 @@
 -- Words of private contracts and of proofs: no public clause names them.
-use Rattle.std.specs.Prelude.{ℕ, ◌+◌, ◌-◌, nat_eq, nat_le, nat_lt, not, Bool, true, ◌&&◌, List, [], ◌∷◌, drop, length}
+use Rattle.std.specs.Prelude.{◌≡◌, ℕ, ◌+◌, ◌-◌, nat_eq, nat_le, nat_lt, not, Bool, true, ◌&&◌, List, [], ◌∷◌, drop, length}
 use Rattle.std.specs.Prelude.{slice_index, if◌then◌else◌, Option, None, Some}
 use Rattle.std.specs.Option.{option_and_then, option_map_or}
 use Rattle.sfnt_bytes.specs.Number.{u16_at, u32_at}
 use Rattle.colour_tables.specs.PaintLists.{tree_size}
-use Rattle.colour_tables.specs.Paints.{Tree, place_from, shape_of, shape_size, u24_at}
+use Rattle.colour_tables.specs.Paints.{Tree, place_from, rest_of, shape_of, shape_size, u24_at}
 use Rattle.colour_tables.specs.declared.shape.Kind.{Kind}
 use Rattle.colour_tables.specs.declared.shape.Kind.TheVariants.{Affine, ClipBox, ColorLine, Paint}
 use Rattle.colour_tables.specs.declared.shape.Shape.{Shape}
@@ -62,3 +62,13 @@ abbrev pub rooms : (ℕ → Kind → Option Tree) → ℕ → List (ℕ × Kind)
 rooms tree_at room [] = Some room
 rooms tree_at room (x ∷ xs) =
     option_and_then (λ left. rooms tree_at left xs) (room_left tree_size room (tree_at x.0 x.1))
+
+-- two parts of a shape have the same bytes but for their offsets
+abbrev pub HasSameFields : Shape → List ℕ → List ℕ → Type 0
+HasSameFields s b c = (slice_index b 0 ≡ slice_index c 0) × (rest_of s b ≡ rest_of s c)
+
+-- two tables have the same shape, and the same bytes but for offsets, at places
+pub record IsSameShape (n : ℕ) (t u : List ℕ) (at other : ℕ) (k : Kind) (s : Shape) : Type 0 where
+  pub first : Some s ≡ shape_at n t at k
+  pub second : Some s ≡ shape_at n u other k
+  pub fields : HasSameFields s (drop at t) (drop other u)

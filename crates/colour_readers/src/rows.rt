@@ -1,8 +1,8 @@
 //! Rows of a list in order of their glyphs, and the search for one. OpenType 1.9, COLR, BaseGlyph records;
 //! BaseGlyphPaintRecord; Clip.
-ghost use Rattle.std.specs.Prelude.{◌≡◌, ◌<◌, ◌^◌};
+ghost use Rattle.std.specs.Prelude.{◌≡◌, ◌<◌, ◌^◌, MatchOption, false};
 ghost use Rattle.codes.specs.Order.{Ascends};
-ghost use Rattle.colour_readers.specs.RowsOf.{IsReached, LiesPast, place_of, row_first, row_last};
+ghost use Rattle.colour_readers.specs.RowsOf.{IsReached, IsRowOf, LiesPast, place_of, row_first, row_last};
 
 use crate::fields::u16_at;
 use codes::{ANYWHERE, Ends, first_reaching};
@@ -65,6 +65,18 @@ pub(crate) fn has_row(rows: &Rows<'_>, g: u16) -> bool
 {
     let i = first_reaching(rows, ANYWHERE, u32::from(g));
     i < rows.count() && rows.first_at(i) <= u32::from(g)
+}
+
+/// Returns the row that a glyph is one of.
+pub(crate) fn row_of(rows: &Rows<'_>, g: u16) -> Option<u32>
+    requires { Ascends (row_last rows.now) rows.now.count }
+    ensures { MatchOption result (IsReached rows.now g false) (λ i. IsRowOf rows.now g i) }
+{
+    let i = first_reaching(rows, ANYWHERE, u32::from(g));
+    if rows.count as usize <= i || u32::from(g) < rows.first_at(i) {
+        return None;
+    }
+    Some(i as u32)
 }
 
 /// Returns whether no glyph from one on and below another is one of a row.

@@ -129,6 +129,7 @@ pub(crate) fn shape_at(t: &[u8], n: u16, at: usize, kind: Kind) -> Option<Shape>
     ensures value { result ≡ shape_at n t.now at kind }
     ensures small { IfSome result (λ s. shape_size s < 2 ^ 50) }
     ensures within { IfSome result (λ s. at < length t.now) }
+    ensures there { IfSome result (λ s. shape_size s ≤ length (drop at t.now)) }
 {
     let b = bytes_from(t, at);
     let shape = shape_of(kind, b)?;

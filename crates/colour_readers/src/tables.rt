@@ -1,17 +1,21 @@
 //! Colour tables that are open. OpenType 1.9, COLR.
-ghost use Rattle.std.specs.Prelude.{◌≡◌, ◌<◌, ◌≤◌, ℕ, IsTrue, MatchOption, true, false, is_some};
+ghost use Rattle.std.specs.Prelude.{◌≡◌, ◌<◌, ◌≤◌, ℕ, IfSome, IsFalse, IsTrue, MatchOption, true, false, is_some};
 ghost use Rattle.sfnt_bytes.specs.Number.{u32_at};
+ghost use Rattle.std.specs.Option.{option_and_then};
+ghost use Rattle.colour_tables.specs.ListedGlyphs.{said_of};
 ghost use Rattle.colour_tables.specs.LayerLists.{base_count, has_layer_lists, layers_at};
-ghost use Rattle.colour_tables.specs.PaintLists.{box_at, colour_at, count_at, has_paint_lists, paint_at};
+ghost use Rattle.colour_tables.specs.PaintLists.{box_at, clip_place, clips_of, colour_at, count_at, has_paint_lists, paint_at, roots_of, tree_in};
 ghost use Rattle.colour_parts.specs.LayerTables.{is_layer_table};
 ghost use Rattle.colour_parts.specs.PaintTables.{has_colour, is_paint_table};
 ghost use Rattle.colour_readers.specs.RowsOf.{AreRowsAt};
 
 use crate::fields::{u16_at, u32_at};
 use crate::layer_lists::is_layer_table;
-use crate::paint_lists::is_paint_table;
-use crate::rows::{Rows, has_no_row, has_row};
+use crate::paint_lists::{clip_at, is_paint_table, root_at};
+use crate::rows::{Rows, has_no_row, has_row, row_of};
 use crate::shapes::count_at;
+use crate::trees::is_same_tree;
+use colour_tables::Kind;
 use std::marker::Model;
 
 // Returns the BaseGlyph records.
@@ -113,6 +117,70 @@ fn has_no_box(t: &[u8], from: u16, to: u16) -> bool
 {
     let rows = clip_rows(t);
     has_no_row(&rows, from, to)
+}
+
+// Returns the place of the paint of a glyph.
+fn paint_place(t: &[u8], g: u16) -> Option<usize>
+    requires { (n : ℕ) × (has_paint_lists n t.now ≡ true) }
+    ensures { result ≡ said_of g (roots_of t.now) }
+{
+    let rows = root_rows(t);
+    match row_of(&rows, g) {
+        Some(i) => Some(root_at(t, i).place),
+        None => None,
+    }
+}
+
+// Returns the place of the clip box of a glyph.
+fn box_place(t: &[u8], g: u16) -> Option<usize>
+    requires { (n : ℕ) × (has_paint_lists n t.now ≡ true) }
+    ensures { result ≡ clip_place g (clips_of t.now) }
+{
+    let rows = clip_rows(t);
+    match row_of(&rows, g) {
+        Some(i) => Some(clip_at(t, i).place),
+        None => None,
+    }
+}
+
+// Returns whether trees at places, if there are any, are the same.
+fn is_same_at(t: &[u8], u: &[u8], n: u16, at: Option<usize>, other: Option<usize>, kind: Kind) -> bool
+    requires first { IfSome at (λ x. is_some (tree_in n t.now kind x) ≡ true) }
+    requires second { IfSome other (λ x. is_some (tree_in n u.now kind x) ≡ true) }
+    ensures same { IsTrue result → option_and_then (tree_in n t.now kind) at
+        ≡ option_and_then (tree_in n u.now kind) other }
+    ensures other { IsFalse result → option_and_then (tree_in n t.now kind) at
+        ≡ option_and_then (tree_in n u.now kind) other → ⊥ }
+{
+    match (at, other) {
+        (Some(at), Some(other)) => is_same_tree(t, u, n, at, other, kind),
+        (None, None) => true,
+        _ => false,
+    }
+}
+
+// Returns whether two tables say the same of the paint of a glyph.
+fn is_same_paint(t: &[u8], u: &[u8], n: u16, g: u16) -> bool
+    requires first { has_paint_lists n t.now ≡ true }
+    requires second { has_paint_lists n u.now ≡ true }
+    ensures same { IsTrue result → paint_at n t.now g ≡ paint_at n u.now g }
+    ensures other { IsFalse result → paint_at n t.now g ≡ paint_at n u.now g → ⊥ }
+{
+    let at = paint_place(t, g);
+    let other = paint_place(u, g);
+    is_same_at(t, u, n, at, other, Kind::Paint)
+}
+
+// Returns whether two tables say the same of the clip box of a glyph.
+fn is_same_box(t: &[u8], u: &[u8], n: u16, g: u16) -> bool
+    requires first { has_paint_lists n t.now ≡ true }
+    requires second { has_paint_lists n u.now ≡ true }
+    ensures same { IsTrue result → box_at n t.now g ≡ box_at n u.now g }
+    ensures other { IsFalse result → box_at n t.now g ≡ box_at n u.now g → ⊥ }
+{
+    let at = box_place(t, g);
+    let other = box_place(u, g);
+    is_same_at(t, u, n, at, other, Kind::ClipBox)
 }
 
 /// A colour table of version 0 that is divided.
