@@ -5,6 +5,7 @@ use Rattle.std.specs.List.{list_all}
 use Rattle.std.specs.Option.{option_map, option_map_or}
 use Rattle.std.proofs.lemmas.Bool.{and_from, and_left, and_parts, and_right, eq-eqb, eqb-true, le-leb, le-ltb}
 use Rattle.std.proofs.lemmas.Bool.{leb-true, lt-leb, lt-ltb, ltb-true}
+use Rattle.std.proofs.Common.{get_or}
 use Rattle.std.proofs.lemmas.List.{drop_all}
 use Rattle.sfnt_bytes.specs.Number.{u16_at, u32_at}
 use Rattle.colour_tables.specs.LayerLists.{MAX_LAYERS, are_bases, are_layers, base_count, bases_in, bases_of, bases_offset, depth}
@@ -222,3 +223,32 @@ layers_room n t h =
     ap is_some (layers_left_is n t MAX_ROOM (bases_of t))
     ∙ is_some_left (list_all (has_layers n t) (bases_of t)) (counts (bases_of t)) MAX_ROOM
     ∙ sym (λ i. each i && leb (sum i) MAX_ROOM)
+
+-- layers of two base glyphs
+pub layer_is : (t : List ℕ) (b : Base) (at j g p : ℕ) → j < b.count → at ≡ u32_at t 8 + 4 * b.first + 4 * j
+    → g ≡ u16_at t at → p ≡ u16_at t (at + 2)
+    → drop j (layers_of t b) ≡ record { glyph = g; palette_entry = p } ∷ drop (j + 1) (layers_of t b)
+unfolding layers_of layers_offset
+layer_is t b at j g p h e x y =
+    let from = u32_at t 8 + 4 * b.first in
+    let glyph = far t from (4 * j) j 0 at (omega (arith, e)) ∙ sym x in
+    let entry = far t from (4 * j) j 2 (at + 2) (omega (arith, e)) ∙ sym y in
+    rows-drop layers_in layer_row 4 layers-rows b.count j (drop from t) h
+    ∙ (λ k. record { glyph = glyph k; palette_entry = entry k } ∷ drop (j + 1) (layers_of t b))
+
+pub same_next : (xs ys rest others : List Layer) (j : ℕ) (x y : Layer) → drop j xs ≡ x ∷ rest → drop j ys ≡ y ∷ others
+    → x ≡ y → (drop j xs ≡ drop j ys → xs ≡ ys) → rest ≡ others → xs ≡ ys
+same_next xs ys rest others j x y e h same up z = up (e ∙ (λ i. same i ∷ z i) ∙ sym h)
+
+pub same_first : (xs ys rest others : List Layer) (j : ℕ) (x y : Layer) → drop j xs ≡ x ∷ rest → drop j ys ≡ y ∷ others
+    → xs ≡ ys → x ≡ y
+same_first xs ys rest others j x y e h same =
+    ap (λ (zs : List Layer). get_or zs 0 x) (sym e ∙ ap (drop j) same ∙ h)
+
+pub same_length : (t u : List ℕ) (b c : Base) → layers_of t b ≡ layers_of u c → b.count ≡ c.count
+same_length t u b c e = sym (layers-long t b) ∙ ap length e ∙ layers-long u c
+
+pub same_end : (t u : List ℕ) (b c : Base) (j : ℕ) → b.count ≤ j → c.count ≤ j
+    → (drop j (layers_of t b) ≡ drop j (layers_of u c) → layers_of t b ≡ layers_of u c)
+    → layers_of t b ≡ layers_of u c
+same_end t u b c j h l up = up (layers_end t b j h ∙ sym (layers_end u c j l))

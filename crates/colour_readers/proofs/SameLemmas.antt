@@ -1,7 +1,7 @@
 -- Trees of two tables that are the same.
-use Rattle.std.proofs.Common.{◌≡◌, ℕ, zero, suc, ◌+◌, ◌-◌, ◌<◌, ◌≤◌, true, false, Bool, cond, eqb, List, [], ◌∷◌, drop, get_or}
+use Rattle.std.proofs.Common.{◌≡◌, ℕ, zero, suc, ◌+◌, ◌-◌, ◌<◌, true, false, Bool, cond, eqb, List, [], ◌∷◌, drop, get_or}
 use Rattle.std.proofs.Common.{take, Option, None, Some, is_some, refl, subst, sym, ap, ◌∙◌, arith}
-use Rattle.std.specs.Option.{option_and_then, option_map, option_map_or}
+use Rattle.std.specs.Option.{option_and_then, option_map}
 use Rattle.std.proofs.lemmas.Bool.{both_ways}
 use Rattle.std.proofs.lemmas.List.{get_or-drop, get_or-take}
 use Rattle.std.proofs.lemmas.Option.{none-some, same_Some}
@@ -77,9 +77,11 @@ has_shape n t layers (suc d) at k x h e =
             → (Some x.shape ≡ Some s) × (x.first ≡ get_or b 0 0) × (x.rest ≡ rest_of x.shape b)
         inner None e = absurd (none-some x e)
         inner (Some f) e =
-            let same = same_Some (tree_with s b f) x e in
-            (λ i. Some (sym same i).shape, λ i. (sym same i).first,
-            (λ i. (sym same i).rest) ∙ ap (λ (z : Shape). rest_of z b) (λ i. (same i).shape))
+            let same = same_Some (tree_with s b f) x e in (
+              λ i. Some (sym same i).shape,
+              λ i. (sym same i).first,
+              (λ i. (sym same i).rest) ∙ ap (λ (z : Shape). rest_of z b) (λ i. (same i).shape),
+            )
 
 -- trees that are the same have the same shape
 pub apart : (n : ℕ) (t u layers others : List ℕ) (d at other : ℕ) (k : Kind) → 0 < d

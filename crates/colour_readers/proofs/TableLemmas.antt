@@ -316,3 +316,23 @@ pub box_read_at : (n : ℕ) (t : List ℕ) (g : ℕ) (at : Option ℕ) → has_p
     → at ≡ clip_place g (clips_of t) → IfSome at (λ x. is_some (tree_in n t ClipBox x) ≡ true)
 box_read_at n t g at h e =
     subst (λ (o : Option ℕ). IfSome o (λ x. is_some (tree_in n t ClipBox x) ≡ true)) (sym e) (box_read n t g h)
+
+-- base glyphs that are found
+pub base_found : (n : ℕ) (t : List ℕ) (r : Rows) (g i : ℕ) (b : Base) (rest : List Base) → has_layer_lists n t ≡ true
+    → AreRowsAt t (u32_at t 4) 0 6 0 (base_count t) r → IsRowOf r g i → drop i (bases_of t) ≡ b ∷ rest
+    → Some b ≡ find (λ b. eqb b.glyph g) (bases_of t)
+base_found n t r g i b rest h at is e =
+    sym (found_pick g (bases_of t)
+    ∙ row_found r glyph_of glyph_of no_base n g i (bases_of t) (bases_are n t r h at) is
+    ∙ ap (λ (x : Base). Some x) (get_first (bases_of t) rest i b no_base e))
+
+pub base_nowhere : (n : ℕ) (t : List ℕ) (r : Rows) (g : ℕ) → has_layer_lists n t ≡ true
+    → AreRowsAt t (u32_at t 4) 0 6 0 (base_count t) r → IsReached r g false
+    → None ≡ find (λ b. eqb b.glyph g) (bases_of t)
+base_nowhere n t r g h at is =
+    sym (found_pick g (bases_of t) ∙ no_row r glyph_of glyph_of no_base n g (bases_of t) (bases_are n t r h at) is)
+
+pub layers_by : (t : List ℕ) (g : ℕ) (base : Option Base) → base ≡ find (λ b. eqb b.glyph g) (bases_of t)
+    → option_map (layers_of t) base ≡ layers_at t g
+unfolding layers_at
+layers_by t g base e = ap (option_map (layers_of t)) e

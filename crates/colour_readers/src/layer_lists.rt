@@ -1,12 +1,12 @@
 //! The layers of glyphs. OpenType 1.9, COLR, Header; BaseGlyph and Layer records.
-ghost use Rattle.std.specs.Prelude.{◌≡◌, ◌∷◌, ◌+◌, ◌<◌, drop, length, nat_le, nat_lt, not, nat_eq, ◌&&◌, ◌||◌, true};
+ghost use Rattle.std.specs.Prelude.{IsFalse, IsTrue, ◌≡◌, ◌∷◌, ◌+◌, ◌<◌, drop, length, nat_le, nat_lt, not, nat_eq, ◌&&◌, ◌||◌, true};
 ghost use Rattle.std.specs.List.{list_all};
 ghost use Rattle.colour_tables.specs.LayerLists.{are_bases, base_count, bases_of, has_layer_lists, has_records, layer_count, layers_at, layers_have_room, layers_of};
 ghost use Rattle.colour_parts.specs.LayerTables.{is_layer_table};
 ghost use Rattle.colour_readers.specs.Rooms.{is_base, layers_left, MAX_ROOM};
 
 use crate::fields::{u16_at, u32_at};
-use colour_tables::Base;
+use colour_tables::{Base, Layer};
 
 /// How many bytes a table of version 0 has before its lists.
 const HEADER: usize = 14;
@@ -20,9 +20,9 @@ const LAYER: usize = 4;
 /// How many layers a table has at most.
 const LAYERS: u16 = 65535;
 
-// Returns numBaseGlyphRecords.
+/// Returns numBaseGlyphRecords.
 #[tactic(auto, unfolding(colour_tables::specs::LayerLists::base_count))]
-fn count_bases(t: &[u8]) -> u16
+pub(crate) fn count_bases(t: &[u8]) -> u16
     ensures { result ≡ base_count t.now }
 {
     u16_at(t, 2)
@@ -36,8 +36,8 @@ fn count_layers(t: &[u8]) -> u16
     u16_at(t, 12)
 }
 
-// Returns a base glyph.
-fn base_at(t: &[u8], i: u16) -> Base
+/// Returns a base glyph.
+pub(crate) fn base_at(t: &[u8], i: u16) -> Base
     requires { i < base_count t.now }
     ensures { drop i (bases_of t.now) ≡ result ∷ drop (i + 1) (bases_of t.now) }
 {
@@ -103,6 +103,39 @@ fn are_layers(t: &[u8], base: Base, n: u16) -> bool
     let at = u32_at(t, 8) as usize + LAYER * usize::from(base.first);
     for j in 0..base.count {
         if n <= u16_at(t, at + LAYER * usize::from(j)) {
+            return false;
+        }
+    }
+    true
+}
+
+// Returns a layer of a base glyph.
+fn layer_at(t: &[u8], base: Base, j: u16) -> Layer
+    requires { j < base.count }
+    ensures { drop j (layers_of t.now base) ≡ result ∷ drop (j + 1) (layers_of t.now base) }
+{
+    let at = u32_at(t, 8) as usize + LAYER * usize::from(base.first) + LAYER * usize::from(j);
+    let glyph = u16_at(t, at);
+    let palette_entry = u16_at(t, at + 2);
+    Layer {
+        glyph,
+        palette_entry,
+    }
+}
+
+/// Returns whether two base glyphs of two tables have the same layers.
+pub(crate) fn has_same_layers(t: &[u8], base: Base, u: &[u8], other: Base) -> bool
+    ensures same { IsTrue result → layers_of t.now base ≡ layers_of u.now other }
+    ensures other { IsFalse result → layers_of t.now base ≡ layers_of u.now other → ⊥ }
+{
+    let count = base.count;
+    if count != other.count {
+        return false;
+    }
+    for j in 0..count {
+        let layer = layer_at(t, base, j);
+        let second = layer_at(u, other, j);
+        if layer != second {
             return false;
         }
     }

@@ -1,21 +1,21 @@
 //! Colour tables that are open. OpenType 1.9, COLR.
-ghost use Rattle.std.specs.Prelude.{◌≡◌, ◌<◌, ◌≤◌, ℕ, IfSome, IsFalse, IsTrue, MatchOption, true, false, is_some};
+ghost use Rattle.std.specs.Prelude.{◌≡◌, ◌<◌, ◌≤◌, ℕ, find, nat_eq, IfSome, IsFalse, IsTrue, MatchOption, true, false, is_some};
 ghost use Rattle.sfnt_bytes.specs.Number.{u32_at};
-ghost use Rattle.std.specs.Option.{option_and_then};
+ghost use Rattle.std.specs.Option.{option_and_then, option_map};
 ghost use Rattle.colour_tables.specs.ListedGlyphs.{said_of};
-ghost use Rattle.colour_tables.specs.LayerLists.{base_count, has_layer_lists, layers_at};
+ghost use Rattle.colour_tables.specs.LayerLists.{base_count, bases_of, has_layer_lists, layers_at, layers_of};
 ghost use Rattle.colour_tables.specs.PaintLists.{box_at, clip_place, clips_of, colour_at, count_at, has_paint_lists, paint_at, roots_of, tree_in};
 ghost use Rattle.colour_parts.specs.LayerTables.{is_layer_table};
 ghost use Rattle.colour_parts.specs.PaintTables.{has_colour, is_paint_table};
 ghost use Rattle.colour_readers.specs.RowsOf.{AreRowsAt};
 
 use crate::fields::{u16_at, u32_at};
-use crate::layer_lists::is_layer_table;
+use crate::layer_lists::{base_at, count_bases, has_same_layers, is_layer_table};
 use crate::paint_lists::{clip_at, is_paint_table, root_at};
 use crate::rows::{Rows, has_no_row, has_row, row_of};
 use crate::shapes::count_at;
 use crate::trees::is_same_tree;
-use colour_tables::Kind;
+use colour_tables::{Base, Kind};
 use std::marker::Model;
 
 // Returns the BaseGlyph records.
@@ -144,7 +144,14 @@ fn box_place(t: &[u8], g: u16) -> Option<usize>
 }
 
 // Returns whether trees at places, if there are any, are the same.
-fn is_same_at(t: &[u8], u: &[u8], n: u16, at: Option<usize>, other: Option<usize>, kind: Kind) -> bool
+fn is_same_at(
+    t: &[u8],
+    u: &[u8],
+    n: u16,
+    at: Option<usize>,
+    other: Option<usize>,
+    kind: Kind,
+) -> bool
     requires first { IfSome at (λ x. is_some (tree_in n t.now kind x) ≡ true) }
     requires second { IfSome other (λ x. is_some (tree_in n u.now kind x) ≡ true) }
     ensures same { IsTrue result → option_and_then (tree_in n t.now kind) at
@@ -181,6 +188,43 @@ fn is_same_box(t: &[u8], u: &[u8], n: u16, g: u16) -> bool
     let at = box_place(t, g);
     let other = box_place(u, g);
     is_same_at(t, u, n, at, other, Kind::ClipBox)
+}
+
+// Returns the record of a base glyph.
+fn base_of(t: &[u8], g: u16) -> Option<Base>
+    requires { (n : ℕ) × (has_layer_lists n t.now ≡ true) }
+    ensures { result ≡ find (λ b. nat_eq b.glyph g) (bases_of t.now) }
+{
+    let rows = base_rows(t);
+    let _count = count_bases(t);
+    match row_of(&rows, g) {
+        Some(i) => Some(base_at(t, i as u16)),
+        None => None,
+    }
+}
+
+// Returns whether base glyphs, if there are any, have the same layers.
+fn is_same_of(t: &[u8], u: &[u8], base: Option<Base>, other: Option<Base>) -> bool
+    ensures same { IsTrue result → option_map (layers_of t.now) base ≡ option_map (layers_of u.now) other }
+    ensures other { IsFalse result → option_map (layers_of t.now) base ≡ option_map (layers_of u.now) other → ⊥ }
+{
+    match (base, other) {
+        (Some(base), Some(other)) => has_same_layers(t, base, u, other),
+        (None, None) => true,
+        _ => false,
+    }
+}
+
+// Returns whether two tables say the same of the layers of a glyph.
+fn is_same_layers(t: &[u8], u: &[u8], g: u16) -> bool
+    requires first { (n : ℕ) × (has_layer_lists n t.now ≡ true) }
+    requires second { (n : ℕ) × (has_layer_lists n u.now ≡ true) }
+    ensures same { IsTrue result → layers_at t.now g ≡ layers_at u.now g }
+    ensures other { IsFalse result → layers_at t.now g ≡ layers_at u.now g → ⊥ }
+{
+    let base = base_of(t, g);
+    let other = base_of(u, g);
+    is_same_of(t, u, base, other)
 }
 
 /// A colour table of version 0 that is divided.
@@ -227,6 +271,15 @@ impl<'t> LayerTable<'t> {
         ensures { IsTrue result → (g : ℕ) → from ≤ g → g < to → is_some (layers_at self.now.0 g) ≡ false }
     {
         has_no_layers(self.bytes, from, to)
+    }
+
+    /// Returns whether another table says the same of a glyph.
+    #[tactic(auto, unfolding(colour_parts::specs::LayerTables::is_layer_table))]
+    pub fn is_same(&self, other: &LayerTable<'_>, g: u16) -> bool
+        ensures same { IsTrue result → layers_at self.now.0 g ≡ layers_at other.now.0 g }
+        ensures other { IsFalse result → layers_at self.now.0 g ≡ layers_at other.now.0 g → ⊥ }
+    {
+        is_same_layers(self.bytes, other.bytes, g)
     }
 }
 
@@ -280,6 +333,21 @@ impl<'t> PaintTable<'t> {
         let layers = has_no_layers(self.bytes, from, to);
         let paint = has_no_paint(self.bytes, from, to);
         let clip = has_no_box(self.bytes, from, to);
+        layers && paint && clip
+    }
+
+    /// Returns whether another table says the same of a glyph.
+    #[tactic(auto, unfolding(colour_parts::specs::PaintTables::is_paint_table))]
+    pub fn is_same(&self, other: &PaintTable<'_>, g: u16) -> bool
+        requires { self.now.1 ≡ other.now.1 }
+        ensures same { IsTrue result →
+            colour_at self.now.1 self.now.0 g ≡ colour_at other.now.1 other.now.0 g }
+        ensures other { IsFalse result →
+            colour_at self.now.1 self.now.0 g ≡ colour_at other.now.1 other.now.0 g → ⊥ }
+    {
+        let layers = is_same_layers(self.bytes, other.bytes, g);
+        let paint = is_same_paint(self.bytes, other.bytes, self.count, g);
+        let clip = is_same_box(self.bytes, other.bytes, self.count, g);
         layers && paint && clip
     }
 }
