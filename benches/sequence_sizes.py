@@ -2,16 +2,15 @@
 the same glyphs of the same font without its sequences."""
 import os
 import shutil
-import struct
 import sys
 from typing import NamedTuple, Optional, Sequence
 
 from checks import BABELSTONE, BIZUD, HANAZONO, IPAEX, PROGRAM, VLGOTHIC, put, read, run, skip
 from document import table
 from font_cutting import sequences
-from font_reading import tables_of, u16, u32
 from measure import need
 from pages import length_of
+from sequence_making import with_subtables
 from shaping_texts import TEXTS
 
 FONTS = [(f"{IPAEX}/ipaexg.ttf", "fonts-ipaexfont-gothic"),
@@ -38,16 +37,6 @@ def spread(found: Sequence[tuple[int, int]]) -> list[tuple[int, int]]:
     return [found[index * len(found) // SEQUENCES] for index in range(min(SEQUENCES, len(found)))]
 
 
-def without_sequences(font: bytes) -> bytes:
-    """A font whose subtable of format 14 says that it has more records than bytes, so that no sequence is read."""
-    made, found = bytearray(font), tables_of(font)[b"cmap"]
-    start = font.index(found)
-    for record in range(start + 4, start + 4 + 8 * u16(found, 2), 8):
-        if struct.unpack_from(">HH", font, record) == (0, 5):
-            struct.pack_into(">I", made, start + u32(font, record + 4) + 6, 0xFFFFFFFF)
-    return bytes(made)
-
-
 def cut_length(font: str, out: str, *words: str) -> int:
     """The bytes as WOFF2 of an exact cut."""
     ran = run(PROGRAM, "subset", "--layout", "--no-layout-closure", "--quiet", font, out, *words)
@@ -64,7 +53,7 @@ def row(folder: str, path: str) -> Row:
     wanted = spread(sorted(every))
     sentence = next(text for text in TEXTS if text.startswith("すべて"))
     put(text, f"{sentence}\n{''.join(chr(code) + chr(selector) for selector, code in wanted)}\n".encode())
-    put(plain, without_sequences(font))
+    put(plain, with_subtables(font))
     numbers = ",".join(str(glyph) for glyph in sorted({every[one] for one in wanted}))
     kept = cut_length(path, out, "--text-file", text)
     return Row(name, len(every), len(wanted), kept,
