@@ -11,6 +11,7 @@ from font_cutting import assembled, cmap_table, groups_of
 from font_reading import table, u16, u32
 from layout_reading import LAYOUT
 from random_fonts import outlines_of
+from sequence_making import Lists, cmap_with, format14
 from worked_cuts import base6_tables
 
 # A table of layout of one script, the one for all.
@@ -228,16 +229,8 @@ def font_of_sequences() -> bytes:
     """A font that maps A, B, Arabic beh and Thai ko kai, with the variation sequences of A and U+FE00, which has the
     glyph that A has, and of B and U+E0100, which has another one."""
     known = [(0x41, 0x42, 1), (0x628, 0x628, 3), (0xE01, 0xE01, 4)]
-    mapped = b"".join(struct.pack(">III", *group) for group in known)
-    groups = struct.pack(">HHIII", 12, 0, 16 + len(mapped), 0, len(known)) + mapped
-    default = struct.pack(">II", 1, 0x41 << 8)
-    other = struct.pack(">I", 1) + bytes.fromhex("000042 0005")
-    header = 10 + 2 * 11
-    sequences = struct.pack(">HII", 14, header + len(default) + len(other), 2)
-    sequences += bytes.fromhex("00FE00") + struct.pack(">II", header, 0)
-    sequences += bytes.fromhex("0E0100") + struct.pack(">II", 0, header + len(default)) + default + other
-    cmap = struct.pack(">HHHHIHHIHHI", 0, 3, 0, 4, 28, 0, 5, 28 + len(groups), 3, 10, 28) + groups + sequences
-    return letters({b"cmap": cmap, b"GPOS": ALL_SCRIPTS})
+    sequences = format14(Lists(0xFE00, ranges=[(0x41, 0)]), Lists(0xE0100, mappings=[(0x42, 5)]))
+    return letters({b"cmap": cmap_with(cmap_table(known), sequences), b"GPOS": ALL_SCRIPTS})
 
 
 # Texts, and the glyphs that the font of `font_of_sequences` has for their variation sequences.
