@@ -103,11 +103,12 @@ def words_of(ask: Ask, place: Optional[Sequence[int]], names: Callable[[str], st
             f"{top} to {right}, {bottom}")
 
 
-def kept(difference: Difference) -> str:
-    """What is said of a page, when its pictures are kept in a new folder, which is named."""
+def kept(difference: Difference, place: Optional[str]) -> str:
+    """What is said of a page, when its pictures are kept in a new folder, which is named: in that of a place, or of
+    what is temporary."""
     if not difference.pictures:
         return difference.said
-    folder = tempfile.mkdtemp(prefix="fontcut-web-check-")
+    folder = tempfile.mkdtemp(prefix="fontcut-web-check-", dir=place)
     for name, picture in zip(("whole.png", "cut.png"), difference.pictures):
         write(os.path.join(folder, name), base64.b64decode(picture))
     return f"{difference.said}: {folder} has both pictures"

@@ -334,18 +334,19 @@ def check(every: Sequence[Compared]) -> None:
         raise Differs(lines)
 
 
-def differences(every: Sequence[Compared]) -> List[str]:
-    """What is said of each page that is not drawn by a cut as by the whole font; nothing of others."""
+def differences(every: Sequence[Compared], place: Optional[str] = None) -> List[str]:
+    """What is said of each page that is not drawn by a cut as by the whole font, whose pictures are kept in a place, or
+    where files are temporary; nothing of others."""
     if not every:
         return []
     program, count = _program(), min(processors(), -(-len(every) // _LEAST))
     parts = [every[first::count] for first in range(count)]
     said = side_by_side([functools.partial(_differences, program, part) for part in parts])
     found = [(one, said[number % count][number // count]) for number, one in enumerate(every)]
-    told = iter(side_by_side([functools.partial(_told, program, one, how) for one, how in found if how]))
+    told = iter(side_by_side([functools.partial(_told, program, one, how, place) for one, how in found if how]))
     return [next(told) if how else "" for _, how in found]
 
 
-def _told(program: str, one: Compared, difference: Difference) -> str:
+def _told(program: str, one: Compared, difference: Difference, place: Optional[str]) -> str:
     """What is said of a page that differs."""
-    return kept(_placed(program, one, difference))
+    return kept(_placed(program, one, difference), place)

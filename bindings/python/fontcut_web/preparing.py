@@ -108,12 +108,19 @@ def _layout_features(font: TTFont) -> Set[str]:
     return {record.FeatureTag for table in tables if table.FeatureList for record in table.FeatureList.FeatureRecord}
 
 
-def lacking_features(data: bytes, tags: Iterable[str]) -> List[str]:
-    """Those of some tags that are of no feature of a font. Of one that cannot be read nothing is known."""
+def features_in(data: bytes) -> Optional[Set[str]]:
+    """The tags of the features of a font, of which a table `kern` counts as one. Of one that cannot be read nothing is
+    known."""
     with contextlib.suppress(*MALFORMED):
         font = TTFont(io.BytesIO(data), lazy=True)
-        return sorted(set(tags) - _layout_features(font) - ({_KERN} if "kern" in font else set()))
-    return []
+        return _layout_features(font) | ({_KERN} if _KERN in font else set())
+    return None
+
+
+def lacking_features(data: bytes, tags: Iterable[str]) -> List[str]:
+    """Those of some tags that are of no feature of a font, as far as that is known."""
+    found = features_in(data)
+    return [] if found is None else sorted(set(tags) - found)
 
 
 def _axes(font: TTFont) -> Dict[str, Tuple[float, float, float]]:
@@ -213,25 +220,30 @@ def _instance(data: bytes, limits: Mapping[str, Limit]) -> bytes:
     return _saved(font)
 
 
-def _subset(data: bytes, how: PrepareOptions, scripts: Iterable[str]) -> Prepared:
-    """A font with the characters, features and names that are to stay."""
+def _subset(font: TTFont, how: PrepareOptions, scripts: Iterable[str]) -> Tuple[bytes, int]:
+    """A font with the characters, features and names that are to stay, and how many glyphs it keeps."""
+    subsetter = Subsetter(_options(how, _keeps_kern(font, how, scripts)))
+    subsetter.populate(unicodes=how.codes)
+    subsetter.subset(font)
+    return _saved(font), len(subsetter.glyphs_retained)
+
+
+def _prepared(data: bytes, how: PrepareOptions, scripts: Iterable[str]) -> Prepared:
+    """A font that has what is to stay, with axes as they are to be."""
     font = TTFont(io.BytesIO(data), recalcBBoxes=False, recalcTimestamp=False, lazy=True)
     before = _counts(font, font["maxp"].numGlyphs)
     if how.limits:
         _check_limits(before.axes, how.limits)
-    subsetter = Subsetter(_options(how, _keeps_kern(font, how, scripts)))
-    subsetter.populate(unicodes=how.codes)
-    subsetter.subset(font)
-    made = _saved(font)
+    made, count = _subset(font, how, scripts)
     made = _instance(made, how.limits) if how.limits else made
-    return Prepared(made, before, _counts(TTFont(io.BytesIO(made), lazy=True), len(subsetter.glyphs_retained)))
+    return Prepared(made, before, _counts(TTFont(io.BytesIO(made), lazy=True), count))
 
 
 def prepared(data: bytes, how: PrepareOptions, scripts: Iterable[str]) -> Prepared:
     """A font that has what is to stay; its characters are of these scripts. Raises `Refused` where fontTools cannot
     read it, or an axis has other values."""
     try:
-        return _subset(data, how, scripts)
+        return _prepared(data, how, scripts)
     except MALFORMED as error:
         raise Refused(f"fontTools cannot prepare it: {' '.join(str(error).split()) or type(error).__name__}") from error
 
@@ -244,7 +256,8 @@ def with_layout_for(data: bytes, how: PrepareOptions, scripts: Iterable[str]) ->
         font = TTFont(io.BytesIO(data), recalcBBoxes=False, recalcTimestamp=False, lazy=True)
         for tag in set(font.keys()) - _SMALL - _FITTED - {"GlyphOrder"}:
             del font[tag]
-        small = TTFont(io.BytesIO(_subset(_saved(font), how, scripts).data), lazy=True)
+        part = TTFont(io.BytesIO(_saved(font)), recalcBBoxes=False, recalcTimestamp=False, lazy=True)
+        small = TTFont(io.BytesIO(_subset(part, how, scripts)[0]), lazy=True)
         tables = {tag: small.reader[tag] if tag in small.reader else None for tag in _FITTED}
         return with_tables(data, tables)
     except MALFORMED as error:

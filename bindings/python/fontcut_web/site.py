@@ -4,12 +4,12 @@ from __future__ import annotations
 import argparse
 import os
 import sys
-from typing import List, Mapping, NamedTuple, Sequence, Set, Tuple
+from typing import Dict, Iterator, List, Mapping, NamedTuple, Sequence, Set, Tuple
 
 import fontcut
 from fontcut_output import Progress, print_line
 
-from . import own_faces, preparing, site_example
+from . import hinting, own_faces, preparing, site_example
 from .common import Refused, UsageError, need
 from .drawn import Differs
 from .faces import face_of
@@ -22,9 +22,9 @@ from .site_fonts import Base, Run, Wished, bases, programs, sections, wished
 from .site_pages import SitePage, languages_of, modes_of, pages_of
 from .site_report import REPORT, Made, check_faces, is_ours, lines, report, sheets
 from .site_settings import FILE, Settings, named, settings_of
-from .site_state import NOTHING, FontState, Place, State, bytes_at, put_text
+from .site_state import NOTHING, FontState, Place, SectionState, State, bytes_at, put_text
 from .site_text import SiteFont, views
-from .site_told import Lacked, lacking_of
+from .site_told import Lacked, lacking_of, stale
 from .site_told import told as told_of
 from .site_written import written_by
 
@@ -111,6 +111,20 @@ def _made(run: Run, base: Base, state: FontState) -> List[Made]:
     return found
 
 
+def _unhinted(place: Place, found: Sequence[Tuple[Base, Sequence[SitePage]]], states: Sequence[FontState], before: State
+              ) -> Iterator[str]:
+    """What is said of fonts that no run has made before and whose settings do not say whether they are hinted, by the
+    longest file of each."""
+    longest: Dict[str, SectionState] = {}
+    for (base, _), state in zip(found, states):
+        if base.settings.hinting is None and base.key not in before.fonts and state.sections:
+            name = os.path.basename(base.settings.file)
+            known = [longest[name]] if name in longest else []
+            longest[name] = max([*known, *state.sections.values()], key=lambda one: one.woff2.size)
+    yield from hinting.told({name: (place.kept(place.work, one.cut) or b"", place.kept(place.output, one.woff2) or b"")
+                             for name, one in longest.items()})
+
+
 def _check_ours(place: Place, before: State, names: Sequence[str]) -> None:
     """Raises `Refused` where a file would be replaced that this command has not written."""
     for name in names:
@@ -141,8 +155,11 @@ def _run(run: Run, settings: Settings, before: State) -> Tuple[str, List[str]]:
     run.said.extend(lacking)
     states, checked = sections(run, found, modes)
     every = [one for (base, _), state in zip(found, states) for one in _made(run, base, state)]
+    run.said.extend(_unhinted(run.place, found, states, before))
     texts = sheets(every, settings.display)
     _check_ours(run.place, before, [*texts, REPORT])
+    run.said.extend(stale(settings, pages, {*texts, *(one.state.woff2.name for one in every)},
+                          {name for one in every for name in one.state.pages}))
     fonts = {base.key: state for (base, _), state in zip(found, states)}
     told = report(settings, pages, every)
     changed = _write(run.place, texts, told, State(programs(), fonts, [*texts, REPORT]))

@@ -8,16 +8,18 @@ import json
 import os
 import re
 import subprocess
-from typing import Dict, Iterable, Iterator, List, Sequence, Tuple
+from typing import Dict, Iterable, Iterator, List, Sequence, Set, Tuple
 
 import fontcut
 
-from .common import Refused, UsageError
+from .common import Missing, MissingProgram, Refused, UsageError
 from .faces import Face, face_of
 from .inputs import accepted, read_pages
 from .own_faces import Placed, called, faces_of
 from .site_report import REPORT
-from .site_settings import FILE, WORK, Settings, page_names
+from .site_pages import pages_of
+from .site_settings import FILE, WORK, FontSettings, Settings, page_names
+from .site_text import SiteFont, views
 from .styles import sheets_of
 
 # Of files of one face the first is named.
@@ -87,6 +89,15 @@ def _lines_of(face: Face, path: str, styles: str, family: str) -> Iterator[str]:
         yield f"family = {json.dumps(family, ensure_ascii=False)}"
 
 
+def _undrawn(settings: Settings, names: Sequence[str], fonts: Sequence[FontSettings]) -> Set[str]:
+    """The files of fonts in whose weight, style and family no page draws text, as far as that is known."""
+    with contextlib.suppress(Refused, UsageError, OSError, MissingProgram, Missing):
+        every = [SiteFont(font, os.path.basename(font.file), accepted(font.file), set(names)) for font in fonts]
+        shown = views(settings._replace(fonts=list(fonts)), every, pages_of(settings)).pages
+        return {font.file for font, pages in zip(fonts, shown) if not pages} if any(shown) else set()
+    return set()
+
+
 def example(folder: str) -> Iterator[str]:
     """The lines of settings for a folder."""
     settings = Settings(folder, [])
@@ -100,10 +111,15 @@ def example(folder: str) -> Iterator[str]:
               for face, path in _faces(_inside(folder)).items()}
     fonts = inside or _faces(_of_system(styles))
     yield f"# Settings to copy to {os.path.join(folder, FILE)}. Pages that are there now: {len(names)}."
+    yield "# fontcut-web site --help has all settings."
     yield f"pages = {json.dumps(settings.pages)}"
-    paths = [os.path.join(folder, path) for path in fonts.values()]
+    paths = {path: os.path.join(folder, path) for path in fonts.values()}
+    families = {path: (called(whole, own, folder, paths.values()) or [""])[0] for path, whole in paths.items()}
+    undrawn = _undrawn(settings, names, [FontSettings(whole, family=families[path]) for path, whole in paths.items()])
     for face, path in fonts.items():
-        families = called(os.path.join(folder, path), own, folder, paths)
-        yield from _lines_of(face, path, styles, families[0] if families else "")
+        if paths[path] in undrawn:
+            yield from ("", f"# {face.family}, {face.style}, {face.weight}, in which no page draws text: {path}")
+        else:
+            yield from _lines_of(face, path, styles, families[path])
     if not fonts:
         yield from ("", "[[font]]", 'file = "Sans.ttf"  # no font is here: write the path of one')

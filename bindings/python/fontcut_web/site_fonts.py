@@ -141,7 +141,7 @@ def _prepared(one: Wished) -> Ready:
     how, letters = one.settings, _letters(one.settings, one.pages)
     codes = mapped(one.whole, letters)
     limits = preparing.limits_of(how.instance) if how.instance else dict.fromkeys(_unused(one))
-    options = PrepareOptions(codes, _features(how, one.pages), how.hinting, limits, how.names, how.kern)
+    options = PrepareOptions(codes, _features(how, one.pages), how.is_hinted, limits, how.names, how.kern)
     wanted = wanted_of(one.whole, codes, letters, [page.shown.blocks for page in one.pages])
     try:
         return Ready(made_of(how.file, one.whole, wanted, options).data)
@@ -204,7 +204,7 @@ def _key(wanted: Wished, pinned: Sequence[str]) -> str:
     one = wanted.settings
     options: Dict[str, object] = {
         "languages": sorted(one.languages), "written": written_by([one]).digest, "features": one.features,
-        "hinting": one.hinting, "names": one.names, "kern": one.kern, "instance": one.instance}
+        "hinting": one.is_hinted, "names": one.names, "kern": one.kern, "instance": one.instance}
     options.update({"pinned": list(pinned)} if pinned else {})
     return digest(wanted.whole.data, digest_of(options).encode())
 

@@ -79,13 +79,20 @@ def _digest(shown: Shown, written: Written) -> str:
                       written.digest])
 
 
+def own_file(settings: Settings, name: str, address: str) -> str:
+    """The file of the output that an address in a page names, by its name there, or nothing."""
+    host, path = parts_of(address)
+    front = f"{parts_of(settings.address)[1].rstrip('/')}/"
+    if settings.address and path.startswith(front):
+        return path[len(front):]
+    folder = "" if path.startswith("/") else os.path.dirname(name)
+    found = os.path.normpath(os.path.join(folder, path.lstrip("/")))
+    return found[len(settings.out) + 1:] if not host and found.startswith(f"{settings.out}{os.sep}") else ""
+
+
 def is_own(settings: Settings, name: str, address: str) -> bool:
     """Whether a page links a style sheet of the output, which says nothing of its text."""
-    path = parts_of(address)[1]
-    if settings.address and path.startswith(f"{parts_of(settings.address)[1].rstrip('/')}/"):
-        return True
-    found = os.path.normpath(os.path.join(os.path.dirname(name), path))
-    return found.startswith(f"{settings.out}{os.sep}")
+    return bool(own_file(settings, name, address))
 
 
 def _page(settings: Settings, name: str, section: str, written: Written) -> SitePage:

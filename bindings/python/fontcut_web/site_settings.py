@@ -6,7 +6,7 @@ import importlib
 import os
 import re
 import sys
-from typing import Any, Dict, Iterator, List, Mapping, NamedTuple, Sequence, Set
+from typing import Any, Dict, Iterator, List, Mapping, NamedTuple, Optional, Sequence, Set
 
 import fontcut
 from fontcut_output import read
@@ -42,7 +42,7 @@ class FontSettings(NamedTuple):
     text: str = ""
     unicodes: str = ""
     features: str = "default"
-    hinting: bool = True
+    hinting: Optional[bool] = None
     names: str = "least"
     kern: str = "auto"
     instance: str = ""
@@ -50,6 +50,11 @@ class FontSettings(NamedTuple):
     family: str = ""
     style: str = ""
     weight: str = ""
+
+    @property
+    def is_hinted(self) -> bool:
+        """Whether it keeps the instructions of glyphs, as it does if the settings do not say it."""
+        return self.hinting is not False
 
 
 class PageSettings(NamedTuple):
@@ -141,7 +146,7 @@ def _font(path: str, number: int, table: object) -> FontSettings:
     where = f"{path}: font {number}"
     if isinstance(table, dict) and isinstance(table.get("weight"), int) and not isinstance(table["weight"], bool):
         table = {**table, "weight": str(table["weight"])}
-    values = _values(where, table, {"file": "", **FontSettings._field_defaults})
+    values = _values(where, table, {"file": "", **FontSettings._field_defaults, "hinting": True})
     if not values.get("file"):
         raise UsageError(f"{where}: file is missing")
     if not values.get("family", "font").strip():
@@ -247,12 +252,16 @@ def _matching(folder: str, pattern: str) -> Iterator[str]:
 
 
 def page_names(settings: Settings) -> List[str]:
-    """The names of all pages."""
-    found = {name for pattern in settings.pages for name in _matching(settings.folder, pattern)}
-    outside = [name for name in found if not name.startswith(f"{settings.out}/")]
-    if not outside:
+    """The names of all pages. Raises `UsageError` for a pattern of the settings that names none."""
+    every: Set[str] = set()
+    for pattern in settings.pages:
+        found = {name for name in _matching(settings.folder, pattern) if not name.startswith(f"{settings.out}/")}
+        if not found and pattern not in Settings._field_defaults["pages"]:
+            raise UsageError(f"{settings.path}: pages: {pattern} is the name of no page")
+        every |= found
+    if not every:
         raise UsageError(f"{settings.path}: no page is there: pages is {', '.join(settings.pages)}")
-    return sorted(outside)
+    return sorted(every)
 
 
 def named(settings: Settings, where: str, patterns: Sequence[str], pages: Sequence[str]) -> Set[str]:

@@ -8,11 +8,13 @@ import fontcut
 
 from . import sequences
 from .common import SHAPED
+from .icons import lacking
 from .matching import matched
 from .sets import some_of, some_words
 from .shown import BY_FEATURES, FIELDS, LABELS, LOST, OPEN, SCRIPTS, added_to
 from .site_fonts import Base
-from .site_pages import EXACT, Modes, SitePage
+from .site_pages import EXACT, Modes, SitePage, own_file
+from .site_report import REPORT
 from .site_settings import Settings
 from .site_written import written_by
 from .styles import Source, cased
@@ -82,9 +84,10 @@ def _origin(settings: Settings, source: Source) -> str:
 
 def _lacking_codes(one: _Page) -> List[int]:
     """The characters that a page has and none of its fonts."""
-    codes = sorted(sequences.without_selectors({ord(letter) for letter in one.page.shown.text if letter.isprintable()}))
+    letters = {letter for letter in one.page.shown.text if letter.isprintable()} - one.page.shown.of_fields
+    codes = sorted(sequences.without_selectors(map(ord, letters)))
     for base in one.fonts:
-        codes = fontcut.missing(base.whole, codes)
+        codes = lacking(base.whole, codes)
     return codes
 
 
@@ -137,6 +140,19 @@ def lacking_of(settings: Settings, found: Sequence[Tuple[Base, Sequence[SitePage
         codes = _lacking_codes(one)
         yield from _lacking(settings, one, codes)
         yield from _lacking_here(one.page, lacked.get(one.page.name, ()), set(codes))
+
+
+def stale(settings: Settings, pages: Sequence[SitePage], written: Set[str], with_fonts: Set[str]) -> Iterator[str]:
+    """What is said of pages that link fonts of the output which are not among the files that are written, as they have
+    got new names; and of pages with fonts that link such style sheets."""
+    found = {page.name: name for page in pages for name in sorted(
+        {own_file(settings, page.name, one) for one in page.page.attributes.get("href", ())} - {"", *written})
+        if name.endswith((".woff2", ".css") if page.name in with_fonts else ".woff2")}
+    if found:
+        first, ending = next(iter(found)), "s" if len(found) == 1 else ""
+        yield (f"{some_of(list(found))} link{ending} {os.path.join(settings.out, found[first])}"
+               f"{'' if len(found) == 1 else ' and others'}, not among the files of this build: copy the lines of "
+               f"head from {os.path.join(settings.out, REPORT)}")
 
 
 def told(settings: Settings, modes: Modes, found: Sequence[Tuple[Base, Sequence[SitePage]]], pages: Sequence[SitePage]
