@@ -9,7 +9,7 @@ _fontcut_web_options() {
         echo '--languages --scripts --unicodes --pages --features --no-hinting --instance --names --kern --force --json --help'
         ;;
     slice)
-        echo '--out --slices --order --rest --lean --layout --variable --full --as-is --drop --woff2 --css --display --strict --force --quiet --json --help'
+        echo '--out --slices --order --rest --lean --layout --variable --full --as-is --drop --features --woff2 --css --display --strict --force --quiet --json --help'
         ;;
     slices) echo '--font --order --help' ;;
     icons) echo '--out --codepoints --lean --variable --force --json --help' ;;

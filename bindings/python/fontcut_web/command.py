@@ -157,36 +157,51 @@ otherwise nothing is written.
 
 _SITE = """\
 Makes the fonts of the pages in DIR as DIR/fontcut.toml says, of which it prints an example for DIR if there is none,
-and writes them to DIR/fonts: each font is prepared for
-the pages in each language, cut for each page, joined for the pages of a section, and written as WOFF2, with a style
-sheet for each section, and site.json, which has the lines for the head of each page. It prints the bytes that each page
-loads, with --whole beside those of the whole fonts as WOFF2.
+and writes them to DIR/fonts: each font is prepared for the pages in each language, cut for each page, joined for the
+pages of a section, and written as WOFF2, with a style sheet for each section, and site.json, which has the lines for
+the head of each page. It prints the bytes that each page loads, with --whole beside those of the whole fonts as WOFF2.
 
 Run again, it makes anew only what has changed. A page that brings new characters has them joined into the font of its
 section. If the prepared font lacks them, it is prepared anew, and its files for this language get new names. What was
 made is kept in DIR/.fontcut. A run that is killed leaves the old files as they are, and the next one goes on. A font
 that would shape text otherwise if it was prepared is cut as it is, which is said.
 
-  pages = ["**/*.html"]            # the pages, which is the default
+These are all settings of fontcut.toml; each but file may be left out:
+
+  pages = ["**/*.html"]            # patterns of the pages, where ** is any folders: by default all HTML files
   closed = ["guestbook.html"]      # pages whose cuts draw other text in letters that these show
   exact = ["index.html"]           # pages whose cuts draw the text that is there alone, although scripts run
+  unchecked = ["clock.html"]       # pages that --check does not draw
+  out = "fonts"                    # the folder that the fonts go to
+  address = "/assets/fonts"        # how pages address it, if not by a relative path
+  display = "swap"                 # the value of font-display
   prepare_by = "site"              # fonts are prepared for all pages, and not for those in each language
+  text_by = "page"                 # fonts have all text of pages, and not that in their family, weight and style
 
   [sections]
   blog = ["blog/*.html"]           # pages that share a font; each other page has its own
 
   [[font]]
-  file = "NotoSans-Regular.ttf"
+  file = "NotoSans-Regular.ttf"    # from the folder of the settings
   pages = ["*.html", "blog/*"]     # the pages that show it; all, if none are named
-  languages = ["de", "fr"]         # readers write in these: its cuts have their letters
+  languages = ["de", "fr"]         # readers write in these: its cuts are closed, and have their letters
+  text = "Ω"                       # more text, and ranges of characters, for all its cuts
+  unicodes = "U+2600-26FF"
+  family = "Sans"                  # what style sheets call it, if not as the font does
+  style = "italic"                 # normal, italic or oblique
+  weight = 700                     # or "100 900", of a variable font
+  kind = "lean"                    # lean, layout, or variable, the default where pages use axes
+  features = "default,smcp"        # as options of fontcut-web prepare: features, hinting, axes, names, table kern
+  hinting = false
+  instance = "opsz=drop"
+  names = "keep"
+  kern = "drop"
 
   [[page]]
-  files = ["guestbook.html"]       # the same for some pages, and more text or characters
+  files = ["guestbook.html"]       # what is written to some pages, as for a font
   languages = ["es"]
   text = "Ω"
   unicodes = "U+2600-26FF"
-
-The manual page has all settings.
 """
 
 _DECODE = """\
@@ -204,8 +219,12 @@ def _run_slice(given: argparse.Namespace) -> None:
     need("fontTools", *["brotli"] if given.woff2 else [])
     slicing = part("slicing")
     drop = dropped_tables(given.drop or [], given.kind)
+    if given.features and (given.as_is or given.kind not in (None, *SHAPED)):
+        raise UsageError("--features is for layout and variable cuts of a prepared font: others have all features or "
+                         "none")
+    features = part("preparing").features_of(",".join(given.features)) if given.features else ()
     how = slicing.SliceOptions(given.kind, given.woff2, given.css, given.display, given.strict, drop, given.rest,
-                               given.force, given.as_is)
+                               given.force, given.as_is, features)
     paths, wanted = use.fonts_and_slices(given)
     with Progress("fontcut-web", given.quiet) as progress:
         progress.say(f"reading {len(paths)} fonts")
@@ -285,8 +304,8 @@ def _add_slice(commands: argparse._SubParsersAction[CommandParser]) -> None:
         "slice", help="cut fonts in slices, with a style sheet", description=f"{_SLICE}\n{_OF_SLICES}\n",
         formatter_class=_RAW, epilog=_STATUS,
         usage="fontcut-web slice FONT.. --out DIR --slices SLICES [--lean | --layout | --variable | --full]\n"
-              "                         [--as-is] [--drop TABLES] [--order FILE] [--rest] [--woff2] [--css]\n"
-              "                         [--display VALUE] [--strict] [--force] [--quiet] [--json]")
+              "                         [--as-is] [--drop TABLES] [--features LIST] [--order FILE] [--rest]\n"
+              "                         [--woff2] [--css] [--display VALUE] [--strict] [--force] [--quiet] [--json]")
     command.add_argument("fonts", metavar="FONT", nargs="+")
     command.add_argument("--out", metavar="DIR", required=True, help="the folder that the files go to")
     command.add_argument("--slices", metavar="SLICES", action="append", required=True, help="a preset or a file")
@@ -296,6 +315,8 @@ def _add_slice(commands: argparse._SubParsersAction[CommandParser]) -> None:
            full="write full cuts")
     _as_is(command)
     _drop(command)
+    command.add_argument("--features", metavar="LIST", action="append",
+                         help="keep these features too, as smcp,onum, or all; may be repeated")
     command.add_argument("--rest", action="store_true",
                          help="write the characters that are left of the scripts of the slices, and of no script, as a "
                               "last slice")

@@ -11,7 +11,7 @@ import os
 import signal
 import sys
 from multiprocessing.connection import Connection, wait
-from typing import Any, Callable, Dict, List, Sequence, TypeVar
+from typing import Any, Callable, Dict, Iterator, List, Sequence, TypeVar
 
 Answer = TypeVar("Answer")
 
@@ -63,24 +63,38 @@ def _answers(tasks: Sequence[Callable[[], Answer]]) -> List[Answer]:
 
 def side_by_side(tasks: Sequence[Callable[[], Answer]]) -> List[Answer]:
     """What each of the tasks answers. The first error that comes ends all of them."""
+    return list(one_by_one(tasks, len(tasks)))
+
+
+def one_by_one(tasks: Sequence[Callable[[], Answer]], most: int) -> Iterator[Answer]:
+    """What each of the tasks answers, in their order, with at most so many answers in memory, while others are at work.
+    The first error that comes ends all of them."""
     count = processors()
     if min(count, len(tasks)) < 2:
-        return [task() for task in tasks]
-    context = multiprocessing.get_context("fork")
+        yield from (task() for task in tasks)
+        return
     found: Dict[int, Answer] = {}
     running: Dict[Any, int] = {}
+    begun = 0
     try:
-        while len(found) < len(tasks):
-            while len(running) < min(count, len(tasks) - len(found)):
-                received, to = context.Pipe(duplex=False)
-                number = len(found) + len(running)
-                context.Process(target=_answer, args=(tasks[number], to), daemon=True).start()
-                to.close()
-                running[received] = number
-            for one in wait(list(running)):
-                found[running.pop(one)] = _received(one)  # type: ignore[arg-type]
+        for number in range(len(tasks)):
+            while number not in found:
+                while len(running) < count and begun < min(len(tasks), number + most):
+                    running[_begun(tasks[begun])] = begun
+                    begun += 1
+                for one in wait(list(running)):
+                    found[running.pop(one)] = _received(one)  # type: ignore[arg-type]
+            yield found.pop(number)
     finally:
         for process in multiprocessing.active_children():
             process.terminate()
             process.join()
-    return [found[number] for number in range(len(tasks))]
+
+
+def _begun(task: Callable[[], object]) -> Connection:
+    """Begins a process for a task, and returns where its answer comes from."""
+    context = multiprocessing.get_context("fork")
+    received, to = context.Pipe(duplex=False)
+    context.Process(target=_answer, args=(task, to), daemon=True).start()
+    to.close()
+    return received

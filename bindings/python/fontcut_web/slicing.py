@@ -8,13 +8,14 @@ from typing import Callable, Dict, Iterator, List, Mapping, NamedTuple, Optional
 import fontcut
 from fontcut_output import Progress, write
 
-from . import fitted, sequences
+from . import fitted, sequences, sliced_losses
 from .common import SHAPED, Refused
 from .faces import Face, face_of, is_variable, varying
 from .inputs import font_of, refusing
 from .notices import ShapedScript, dropped, shaped_scripts
 from .prepare import is_prepared, samples
-from .processes import side_by_side
+from .presets import languages
+from .processes import one_by_one
 from .sets import (REST, Asked, Slice, codes_of, divided, empty_names, left_out, range_words, sequences_of, unsliced,
                    with_sequences)
 from .sheet import Placed, Styled, page, preloads, style_sheet
@@ -27,16 +28,15 @@ _NAMED = 5
 _AT_ONCE = 16
 # A font whose layout tables have so many bytes at most, prepared for all slices, is not prepared for each of them.
 _SHARED = 4096
-# What browsers turn on by themselves in numbers: of lists, and upright ones in vertical lines.
-_NUMBERS = "hwid", "qwid", "tnum", "twid"
 
 
 class Font(NamedTuple):
     """A font that is accepted, with the slices that are wanted of it. `kind` is the kind of its cuts, and `is_fitted`
     says whether it is prepared for them first. `face` is what the style sheet says of it, `shown` the face of its
-    default instance, `base` begins the names of the files, and `unsliced` has the scripts of which no character is in a
-    slice, with how many characters the font has of each, and `left_out` the other characters in no slice. `notices` are
-    the lines that are said of all this, and of what the cuts drop."""
+    default instance, `base` begins the names of the files, `features` are those that it keeps beside those of shapers
+    if it is prepared, and `unsliced` has the scripts of which no character is in a slice, with how many characters the
+    font has of each, and `left_out` the other characters in no slice. `notices` are the lines that are said of all
+    this, and of what the cuts drop."""
 
     path: str
     font: fontcut.Font
@@ -46,6 +46,7 @@ class Font(NamedTuple):
     shown: Face
     slices: List[Slice]
     base: str
+    features: Set[str]
     unsliced: Dict[str, int]
     left_out: List[int]
     notices: List[str]
@@ -62,7 +63,8 @@ class Written(NamedTuple):
 class SliceOptions(NamedTuple):
     """How slices are written: of which kind of cut, which is layout or variable, as the font is, if none is named, and
     what besides; the tables that fonts are taken to lack; whether a last slice has the characters that are left out,
-    whether equal slices divide scripts that are shaped, and whether fonts are cut as they are."""
+    whether equal slices divide scripts that are shaped, and whether fonts are cut as they are; and the features that
+    those that are not keep beside those of shapers, where `None` is all."""
 
     kind: Optional[str] = None
     woff2: bool = False
@@ -73,6 +75,7 @@ class SliceOptions(NamedTuple):
     rest: bool = False
     is_dividing: bool = False
     as_is: bool = False
+    features: Optional[Sequence[str]] = ()
 
     def kind_of(self, font: bytes) -> str:
         """The kind of cuts of a font."""
@@ -141,8 +144,11 @@ def _opened(path: str, asked: Sequence[Asked], how: SliceOptions) -> Font:
     notices += dropped(path, font.data, (code for one in slices for code in one.codes), kind)
     drawn = "".join(pair for one in slices for pair in one.sequences)
     notices += sequences.told(drawn, [(path, font, kind)], f"{path} lacks")
-    is_fitted = kind in SHAPED and not how.as_is and not is_prepared(path)
-    return Font(path, font, kind, is_fitted, face, shown, slices, "", lost, rest, notices)
+    notices += sliced_losses.unknown(path, font.data, how.features)
+    is_fitted, features = kind in SHAPED and not how.as_is and not is_prepared(path), set()  # type: bool, Set[str]
+    if is_fitted:
+        features = sliced_losses.kept(path, font.data, how.features)
+    return Font(path, font, kind, is_fitted, face, shown, slices, "", features, lost, rest, notices)
 
 
 def _divided_words(path: str, scripts: Sequence[ShapedScript], plain: Sequence[Slice], slices: Sequence[Slice]
@@ -185,14 +191,18 @@ class Base(NamedTuple):
     is_for_each: bool
 
 
+def _codes(font: Font) -> List[int]:
+    """The characters of the slices of a font."""
+    return sorted({code for one in font.slices for code in one.codes})
+
+
 def _base_of(font: Font) -> Base:
     """What the slices of a font are cut of. Raises `Refused` where it is to be prepared and cannot be. A prepared font
     has layout tables for all slices, if these are small: those for Chinese, Japanese and Korean mostly are, whose
     slices are many."""
     if not font.is_fitted:
         return Base(font.font, False)
-    every = sorted({code for one in font.slices for code in one.codes})
-    base = fitted.fitted(font.font, every, font.kind, _NUMBERS)
+    base = fitted.fitted(font.font, _codes(font), font.kind, font.features)
     return Base(base, len(font.slices) > 1 and fitted.layout_size(base) > _SHARED)
 
 
@@ -201,7 +211,11 @@ def _cut(font: Font, base: Base, one: Slice) -> bytes:
     source = base.font
     if base.is_for_each:
         with refusing(font.path):
-            source = fitted.fitted(source, one.codes, font.kind, _NUMBERS)
+            # fontTools reads the cut much faster than the font, which has all characters, but no layout cut of a font
+            # that varies: its GDEF has lost the variations that are looked for there.
+            if not is_variable(font.font.data):
+                source = fontcut.Font(fontcut.cut(source, one.codes, kind=font.kind, gids=_drawn(font, one)))
+            source = fitted.fitted(source, one.codes, font.kind, font.features)
     with refusing(font.path):
         cut = fontcut.cut(source, one.codes, kind=font.kind, gids=_drawn(font, one))
     if font.is_fitted:
@@ -209,7 +223,7 @@ def _cut(font: Font, base: Base, one: Slice) -> bytes:
         # as a blank, which is perhaps in another slice.
         texts = map(sequences.plain, samples(font.font, set(map(chr, one.codes))))
         drawn = (pair for pair in one.sequences if fontcut.variants(font.font, pair))
-        fitted.check(font.path, font.font, cut, font.kind, [*texts, *drawn])
+        fitted.check(font.path, font.font, cut, font.kind, [*texts, *drawn], sliced_losses.tried(font.features))
     return cut
 
 
@@ -227,17 +241,20 @@ def _made(font: Font, make: Callable[[], bytes], is_packed: bool) -> Tuple[bytes
 
 def _cuts(font: Font, base: Base, is_packed: bool) -> Iterator[Tuple[Slice, bytes, Optional[bytes]]]:
     """The slices of a font, each with its cut and its WOFF2 file."""
+    if font.is_fitted:
+        made = one_by_one([functools.partial(_made, font, functools.partial(_cut, font, base, one), is_packed)
+                           for one in font.slices], _AT_ONCE)
+        yield from ((one, cut, small) for one, (cut, small) in zip(font.slices, made))
+        return
     for at in range(0, len(font.slices), _AT_ONCE):
         some = font.slices[at:at + _AT_ONCE]
-        makes: List[Callable[[], bytes]] = [functools.partial(_cut, font, base, one) for one in some]
-        if not font.is_fitted:
-            # One call cuts the font faster for all of them.
-            drawn = [_drawn(font, one) for one in some]
-            with refusing(font.path):
-                whole = fontcut.slices(base.font, [one.codes for one in some], kind=font.kind,
-                                       gids=drawn if any(drawn) else None)
-            makes = [functools.partial(bytes, cut) for cut in whole]
-        made = side_by_side([functools.partial(_made, font, make, is_packed) for make in makes])
+        # One call cuts the font faster for all of them.
+        drawn = [_drawn(font, one) for one in some]
+        with refusing(font.path):
+            whole = fontcut.slices(base.font, [one.codes for one in some], kind=font.kind,
+                                   gids=drawn if any(drawn) else None)
+        made = one_by_one([functools.partial(_made, font, functools.partial(bytes, cut), is_packed) for cut in whole],
+                          _AT_ONCE)
         yield from ((one, cut, small) for one, (cut, small) in zip(some, made))
 
 
@@ -259,13 +276,35 @@ def _slices(fonts: Sequence[Font], folder: str, how: SliceOptions, progress: Pro
         progress.say("preparing it" if font.is_fitted else "cutting it", os.path.basename(font.path))
         font, base = _ready(font)
         written: List[Written] = []
+        lost = sliced_losses.sequences_in(font.font, _codes(font)) if font.kind in SHAPED else set()
         for one, cut, small in _cuts(font, base, how.woff2):
             number += 1
+            lost = lost and lost - sequences.distinct(cut)
             progress.say(f"slice {number} of {count}", os.path.basename(font.path))
             name = f"{font.base}-{one.name}"
             written.append(Written(one, _put(folder, f"{name}.ttf", cut),
                                    None if small is None else _put(folder, f"{name}.woff2", small)))
+        font.notices.extend(sliced_losses.dropped(font.path, _lost_features(font), lost))
+        font.notices.extend(_loaded_words(font.path, {one.slice.name: (one.woff2 or one.cut)[1] for one in written}))
         yield font, written
+
+
+def _loaded_words(path: str, sizes: Mapping[str, int]) -> Iterator[str]:
+    """What is said of the bytes that a page loads of slices by the use of a language, which have these sizes."""
+    for language in languages():
+        first, *rest = [size for name, size in sizes.items() if name.startswith(f"{language}-")] or [0]
+        if language in sizes and rest:
+            yield (f"{path}: nearly each page in {language} loads {sizes[language] + first:,} bytes of the first two "
+                   f"slices, and mostly {sorted(rest)[len(rest) // 2]:,} of each rarer one: for text that is known, "
+                   "fontcut-web text makes one small file")
+
+
+def _lost_features(font: Font) -> Set[str]:
+    """The features that a font has for the characters of its slices and that these lack, if it is prepared for them."""
+    lost = sliced_losses.others(font.font.data, font.features) if font.is_fitted else set()
+    if not lost:
+        return lost
+    return lost & sliced_losses.others(fitted.fitted(font.font, _codes(font), font.kind, lost).data, font.features)
 
 
 def paths_of(fonts: Sequence[Font], folder: str, how: SliceOptions) -> List[str]:
