@@ -126,7 +126,7 @@ def print_line(line: str) -> None:
 
 def reason(error: OSError) -> str:
     """What an error of the system says, with the file that it is about."""
-    return f"{error.filename}: {error.strerror}" if error.filename else str(error)
+    return str(error) if error.filename is None else f"{error.filename or repr('')}: {error.strerror}"
 
 
 class Progress:

@@ -34,6 +34,8 @@ prints no findings here, only whether the font is accepted.
 Exit status: 0 done; 1 a font is refused, belongs says no, or out of memory; 2 usage error; 3 a file cannot be read or
 written.
 `;
+// How a page of HTML begins.
+const HTML = /^\s*(?:<!--[^]*?-->\s*)*<(?:!doctype html|html|head|body)\b/i;
 const FLAG = { type: 'boolean' }, LIST = { type: 'string', multiple: true };
 const KIND_FLAGS = { lean: FLAG, layout: FLAG, variable: FLAG };
 // Options of the program that no command has here.
@@ -247,7 +249,11 @@ function runSubset(given, [font, out, ...words]) {
             `${shownName(path)} is a file: --text keeps the characters of its path, --text-file those in it`);
         const none = !SHAPED.includes(kind) && lists.some((one) => one.sequences.length)
             ? ['full and lean cuts have no variation sequences: add --layout'] : [];
-        say([...emptyOf(given, texts, lists), ...none, ...paths, ...lossesOf(shownName(font), data, kind, asked)]);
+        const pages = texts.filter((one) => one.isFile && HTML.test(one.text)).map((one) =>
+            `${shownName(one.option)} is HTML, whose tags and scripts are kept as text: fontcut-web text keeps what it `
+            + 'draws');
+        say([...emptyOf(given, texts, lists), ...none, ...paths, ...pages,
+            ...lossesOf(shownName(font), data, kind, asked)]);
     }
 }
 

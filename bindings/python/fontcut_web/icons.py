@@ -38,6 +38,7 @@ _WORD = 4
 _PRIVATE = range(0xE000, 0xF900)
 # A font of icons has so many of these at least.
 _LEAST = 20
+_BLANK = 0x20
 
 
 class Icon(NamedTuple):
@@ -90,6 +91,12 @@ def may_have_icons(font: fontcut.Font) -> bool:
     """Whether a font has as many characters without a meaning of their own as fonts of icons have, which is soon known.
     """
     return sum(code in _PRIVATE for code in codes_of(font)) >= _LEAST
+
+
+def lacking(font: fontcut.Font, codes: Iterable[int]) -> List[int]:
+    """Those of some characters that a font lacks and that are missed in it: a font of icons needs no blank."""
+    absent = fontcut.missing(font, codes)
+    return [code for code in absent if code != _BLANK or not may_have_icons(font)]
 
 
 def is_of_icons(font: fontcut.Font) -> bool:
@@ -225,3 +232,8 @@ def run(given: argparse.Namespace) -> None:
         told = [{"name": icon.name, "code": f"U+{icon.code:04X}", "class": f"icon-{icon.name}"} for icon in icons]
         print_line(json.dumps({"font": given.font, "bytes": {name: len(data) for name, data in files.items()},
                                "icons": told}, indent=2))
+    else:
+        sheet = os.path.join(given.out, SHEET)
+        print_line(f"{os.path.join(given.out, packed_file)}: {len(packed_cut):,} bytes, a {given.kind} cut of "
+                   f"{len(icons)} icon{'' if len(icons) == 1 else 's'}; {sheet} has a class for each, as "
+                   f"icon-{icons[0].name}")

@@ -35,7 +35,7 @@ _LABELS = {"submit": ["Submit", "Submit Query"], "reset": ["Reset"], "image": ["
 _NAMED_BY = {"submit": "value", "reset": "value", "image": "alt"}
 _SUMMARY = "Details"
 # The mark that a browser draws for each character of a password.
-_HIDDEN = "\u2022"
+HIDDEN = "\u2022"
 _CHARSET = re.compile(rb"<meta[^>]+charset\s*=\s*[\"']?\s*([\w.:-]+)", re.I)
 _MARKS = {codecs.BOM_UTF8: "utf-8-sig", codecs.BOM_UTF16_LE: "utf-16", codecs.BOM_UTF16_BE: "utf-16"}
 # What browsers take these names for (Encoding Standard, 4.2).
@@ -159,7 +159,7 @@ class _Reader(HTMLParser):
         if tag in ("ol", "li"):
             found["made"] += [counters.of_type(given.get("type", "")), counters.digits() if tag == "ol" else ""]
         elif tag == "input" and given.get("type", "").lower() == "password":
-            found["made"].append(_HIDDEN)
+            found["made"].append(HIDDEN)
 
     def handle_endtag(self, tag: str) -> None:
         self.elements.end(tag)

@@ -59,19 +59,23 @@ def word_of(sequence: str) -> str:
     return f"U+{code:X}+{selector:X}"
 
 
-def _drawn_otherwise(font: bytes, wanted: Sequences) -> Tuple[Sequences, Sequences]:
-    """The sequences of these that a font has, and those of them for which it has other glyphs than for the characters
-    alone."""
+def _sequences_of(font: bytes) -> Tuple[Sequences, Sequences]:
+    """The sequences of a font, and those of them for which it has other glyphs than for the characters alone."""
     malformed = part("malformed").MALFORMED
     try:
         opened = part("woff").TTFont(io.BytesIO(font), lazy=True)
         tables = [table.uvsDict for table in opened["cmap"].tables if table.format == 14]
-        rows = [(code, selector, glyph) for table in tables for selector, some in table.items() for code, glyph in some]
-        mapped = opened.getBestCmap() or {}
+        every = {(code, selector): glyph
+                 for table in tables for selector, some in table.items() for code, glyph in some}
+        mapped = opened.getBestCmap() or {} if every else {}
     except malformed:
         return set(), set()
-    every = {(code, selector): glyph for code, selector, glyph in rows if (code, selector) in wanted}
     return set(every), {one for one, glyph in every.items() if glyph not in (None, mapped.get(one[0]))}
+
+
+def distinct(font: bytes) -> Sequences:
+    """The sequences for which a font has other glyphs than for the characters alone."""
+    return _sequences_of(font)[1]
 
 
 def _listed(sequences: Iterable[Tuple[int, int]]) -> str:
@@ -91,7 +95,7 @@ def told(text: str, fonts: Sequence[Tuple[str, fontcut.Font, str]], none_has: st
     them a cut draws in the plain form, and which no font has, in these words."""
     left = wanted = sequences_in(text)
     for name, font, kind in fonts if wanted else ():
-        every, drawn = _drawn_otherwise(font.data, wanted)
+        every, drawn = (wanted & some for some in _sequences_of(font.data))
         left, kept = left - every, _kept(font, drawn)
         lost = drawn - kept if kind in SHAPED else drawn
         if lost:

@@ -10,7 +10,7 @@ import fontcut
 from . import own_faces
 from .feature_sets import MOST, feature_sets
 from .matching import lines_added, matching_of
-from .pages import Page, lines_of, shown
+from .pages import HIDDEN, Page, lines_of, shown
 from .rules import Selectors, Subject
 from .styles import Added, Features, Source, Styles, cased, features_in, quotes_of, sheets_of, styles_of
 
@@ -36,8 +36,8 @@ FIELDS = "it has fields, and text that readers write in this font may vanish"
 class Shown(NamedTuple):
     """What a page shows, as far as it can be known, and what cannot: blocks of text, the languages that it is shown in,
     directions, the sets of features that its runs of text have, all features that its style sheets turn on, whether
-    readers write to it, lines that say the rest, and the characters of blocks of which not all is known, as numbers in
-    them."""
+    readers write to it, lines that say the rest, the characters of blocks of which not all is known, as numbers in
+    them, and the characters that browsers alone write in fields, in another font where one lacks them."""
 
     path: str
     text: str
@@ -49,6 +49,7 @@ class Shown(NamedTuple):
     has_fields: bool
     unknown: List[str]
     open: List[str]
+    of_fields: Set[str]
 
 
 class Read(NamedTuple):
@@ -112,6 +113,13 @@ def added_to(page: Page, read: Read) -> Additions:
     return Additions(_added(page, read.styles), read.styles.cases)
 
 
+def _of_fields(page: Page, styles: Styles, text: str) -> Set[str]:
+    """The characters that browsers alone write in fields and on buttons of a page, which has more text."""
+    others = page._replace(labels=[], made=[one for one in page.made if one != HIDDEN])
+    known = {letter for one in _added(others, styles) for letter in one.text}
+    return set("".join([*page.labels, *({HIDDEN} & {*page.made})])) - known - set(page.text) - set(text)
+
+
 def shown_by(page: Page, path: str, read: Read, more: Sequence[Features] = (), text: str = "",
              drawn: Optional[Sequence[str]] = None) -> Shown:
     """What a page in a file shows, with its style sheets, with more sets of features, and with more text. The text of
@@ -128,7 +136,7 @@ def shown_by(page: Page, path: str, read: Read, more: Sequence[Features] = (), t
     whole = "\0".join([page.text, text, *added, *blocks])
     return Shown(path, whole, list(dict.fromkeys(blocks)), ["", *page.languages], _directions(page, styles, blocks),
                  sets[:MOST], _turned_on(page, styles, more), "fields" in page.writers,
-                 list(_unknown(page, path, styles, lost, len(sets) > MOST)), every)
+                 list(_unknown(page, path, styles, lost, len(sets) > MOST)), every, _of_fields(page, styles, text))
 
 
 def _has_numbers(page: Page, styles: Styles) -> bool:

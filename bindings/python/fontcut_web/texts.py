@@ -6,7 +6,7 @@ import contextlib
 import json
 import os
 import sys
-from typing import Dict, Iterable, List, NamedTuple, Sequence, Set, Tuple
+from typing import Dict, Iterable, List, Mapping, NamedTuple, Sequence, Set, Tuple
 
 import fontcut
 from fontcut_output import Progress, print_line, write
@@ -26,12 +26,14 @@ _TRIED = 16
 
 
 class Cut(NamedTuple):
-    """A cut of a font and its characters; what `--json` reports beside them, as its glyphs, and lines that warn."""
+    """A cut of a font and its characters; what `--json` reports beside them, as its glyphs, and lines that warn; and
+    whether it is closed though all text of its pages is known."""
 
     data: bytes
     codes: List[int]
     report: Dict[str, object]
     warnings: List[str]
+    may_be_exact: bool = False
 
 
 def _is_prepared(given: argparse.Namespace, source: str) -> bool:
@@ -105,8 +107,9 @@ def _check_words(given: argparse.Namespace) -> None:
 
 def _lacking(given: argparse.Namespace, source: str, font: fontcut.Font, shown: Sequence[Shown]) -> List[int]:
     """The characters of the pages that a font lacks, which are told. Raises `Refused` where that is asked for."""
-    codes = sorted(sequences.without_selectors(map(ord, set().union(*map(_letters, shown)))))
-    lacking = fontcut.missing(font, codes)
+    letters = set().union(*(_letters(page) - page.of_fields for page in shown))
+    codes = sorted(sequences.without_selectors(map(ord, letters)))
+    lacking = _missed(font, codes)
     if lacking:
         said = f"{source} lacks {len(lacking)} of {len(codes)} characters: {some_words(lacking)}"
         if given.strict:
@@ -114,6 +117,15 @@ def _lacking(given: argparse.Namespace, source: str, font: fontcut.Font, shown: 
         if not given.json and not given.quiet:
             print(f"fontcut-web: {said}", file=sys.stderr)
     return lacking
+
+
+def _missed(font: fontcut.Font, codes: Sequence[int]) -> List[int]:
+    """Those of some characters that a font lacks, and that are missed in a font of icons, where fontTools is there to
+    know these."""
+    with contextlib.suppress(Missing):
+        found: List[int] = part("icons").lacking(font, codes)
+        return found
+    return fontcut.missing(font, codes)
 
 
 def _unknown_features(given: argparse.Namespace, source: str, font: fontcut.Font) -> List[str]:
@@ -137,13 +149,15 @@ def _dropped(given: argparse.Namespace, source: str, font: fontcut.Font, cut: Cu
     return lines
 
 
-def _unmade(font: fontcut.Font, words: Sequence[str]) -> List[str]:
-    """What is said of words of a page that name no icon of a font of icons, where fontTools is there to know these."""
+def _of_icons(source: str, font: fontcut.Font, words: Mapping[str, Sequence[str]]) -> List[str]:
+    """What is said of a font of icons, and of words of pages, by the names of these, that name no icon of it, where
+    fontTools is there to know them."""
     with contextlib.suppress(Missing):
         icons = part("icons")
         if icons.may_have_icons(font) and icons.is_of_icons(font):
-            found: List[str] = icons.unmade(font, words, is_of_text=True)
-            return found
+            return [f"{source} is a font of icons: fontcut-web icons cuts it for their names, and much smaller",
+                    *(f"{path}: {source} has {line}" for path, some in words.items()
+                      for line in icons.unmade(font, some, is_of_text=True))]
     return []
 
 
@@ -195,14 +209,16 @@ def _made(given: argparse.Namespace, font: fontcut.Font, source: str, shown: Seq
     if base is not font:
         _check_shapes(given, font, source, cut, shown)
     return cut._replace(report={**cut.report, "kind": given.kind, "prepared": base is not font},
-                        warnings=[*cut.warnings, *said])
+                        warnings=[*cut.warnings, *said],
+                        may_be_exact=not given.shaped and not any(page.unknown or page.open for page in shown))
 
 
 def _said(given: argparse.Namespace, source: str, out: str, length: int, cut: Cut) -> str:
-    """What is said of the cut that was written: whether the font was prepared for it, so that it joins with no other.
-    """
+    """What is said of the cut that was written: whether the font was prepared for it, so that it joins with no other,
+    and whether it could be smaller."""
     name = os.path.basename(source)
-    how = (f"{name}, which was prepared for it: it joins with no other cut; --as-is makes one that does"
+    smaller = "; --shaped makes an exact one, of just the glyphs of its text" if cut.may_be_exact else ""
+    how = (f"{name}, which was prepared for it: it joins with no other cut; --as-is makes one that does{smaller}"
            if cut.report["prepared"] else f"{name} as it is, which joins with its other {given.kind} cuts")
     if out.lower().endswith(".woff2") and not cut.report["prepared"]:
         how = f"{name} as it is"
@@ -261,10 +277,10 @@ def run(given: argparse.Namespace) -> None:
     cut = _made(given, font, source, shown)
     with refusing(source):
         data = part("woff").packed(cut.data) if out.lower().endswith(".woff2") else cut.data
-    notices = [*_dropped(given, source, font, cut, shown),
+    notices = [*(f"{one.path}: it draws no text" for one in shown if not one.text.strip("\0 \t\r\n\f")),
+               *_dropped(given, source, font, cut, shown),
                *(f"{path}: {LABELS}" for page, path in zip(read, paths) if page.labels),
-               *(f"{path}: {source} has {line}" for page, path in zip(read, paths)
-                 for line in _unmade(font, page.words))]
+               *_of_icons(source, font, {path: page.words for page, path in zip(read, paths)})]
     if given.check:
         drawn = part("drawn")
         ranges = page_range(cut.codes) if given.css else ""
