@@ -71,10 +71,10 @@ class Piece(NamedTuple):
     """A paint, color line, affine or clip box, with zeros for its offsets and for firstLayerIndex, and what these lead
     to, in their order. Of all that there are the size in bytes, how deep it is nested, and the glyphs that are named."""
 
+    size: int
     kind: str
     data: bytes
     below: tuple["Piece", ...]
-    size: int
     depth: int
     names: frozenset[int]
 
@@ -214,7 +214,7 @@ class Reader:
         names = frozenset([number(data, form.glyph, 2)] if form.glyph is not None else [])
         ensure(all(glyph < self.count for glyph in names))
         below = tuple(self.piece(other, at, depth + 1) for other, at in places)
-        return Piece(kind, bytes(data), below, len(data) + sum(piece.size for piece in below),
+        return Piece(len(data) + sum(piece.size for piece in below), kind, bytes(data), below,
                      1 + max((piece.depth for piece in below), default=0), names.union(*(one.names for one in below)))
 
     def paints(self) -> dict[int, Piece]:
