@@ -182,7 +182,7 @@ class Reader:
     def own_layers(self) -> dict[int, Layers]:
         """The layers of version 0 of each base glyph."""
         bases = self.plain_rows(4, number(self.table, 2, 2), BASE)
-        layers = [struct.unpack(">HH", row) for row in self.plain_rows(8, number(self.table, 12, 2), LAYER)]
+        layers = [(number(row, 0, 2), number(row, 2, 2)) for row in self.plain_rows(8, number(self.table, 12, 2), LAYER)]
         found, least = dict[int, Layers](), 0
         for glyph, first, count in struct.iter_unpack(">HHH", b"".join(bases)):
             ensure(least <= glyph < self.count and first + count <= len(layers))
