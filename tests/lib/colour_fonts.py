@@ -117,22 +117,21 @@ import hashlib, json, sys
 from fontTools.colorLib.unbuilder import unbuildColrV1
 from fontTools.ttLib import TTFont
 from fontTools.ttLib.tables import otTables as ot
-from fontTools.ttLib.tables.otBase import CountReference, OTTableWriter
+from fontTools.ttLib.tables.otBase import CountReference, OTTableReader, OTTableWriter
 from fontTools.ttLib.tables.otConverters import Table24
 
 def reading(path):
-    font = TTFont(path)
-    colr, number = font["COLR"], font.getGlyphID
-    found = {"version": colr.version, "layers": {}, "paints": {}, "boxes": {}, "unbuilt": {}}
-    if colr.version == 0:
-        found["layers"] = {number(name): [[number(layer.name), layer.colorID] for layer in layers]
-                           for name, layers in colr.ColorLayers.items()}
-        return found
-    table = colr.table
+    font, table, number = TTFont(path), ot.COLR(), lambda name: int(name[1:])
+    # Names of glyphs that a cut has too; and fontTools' own reader lacks lists of version 0 that are empty.
+    font.setGlyphOrder([f"g{glyph}" for glyph in range(font["maxp"].numGlyphs)])
+    table.decompile(OTTableReader(font.reader["COLR"], tableTag="COLR"), font)
+    found = {"version": table.Version, "layers": {}, "paints": {}, "boxes": {}, "unbuilt": {}}
     records = table.LayerRecordArray.LayerRecord if table.LayerRecordArray else []
     for base in table.BaseGlyphRecordArray.BaseGlyphRecord if table.BaseGlyphRecordArray else []:
         found["layers"][number(base.BaseGlyph)] = [[number(layer.LayerGlyph), layer.PaletteIndex] for layer in records[
             base.FirstLayerIndex:base.FirstLayerIndex + base.NumLayers]]
+    if table.Version == 0:
+        return found
     paints = table.LayerList.Paint if table.LayerList else []
 
     def tree(piece):
