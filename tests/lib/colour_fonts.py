@@ -1,4 +1,5 @@
-"""Fonts with colours, which fontTools makes of Debian's fonts, or which Debian has, and what fontTools reads of them."""
+"""Fonts with colours, which fontTools makes of Debian's fonts, or which Debian has, and what fontTools reads of
+them."""
 import glob
 import json
 import os
@@ -96,7 +97,8 @@ def layers():
     return [(chance.choice(parts), chance.choice((0, 1, 2, 0xFFFF))) for _ in range(chance.randint(1, 4))]
 
 # With a store fontTools takes no layers of version 0, nor if it is asked for version 1.
-glyphs = {name: layers() if version == 0 or not axes and chance.random() < 0.2 else paint(chance.randint(1, 5)) for name in base}
+glyphs = {name: layers() if version == 0 or not axes and chance.random() < 0.2 else paint(chance.randint(1, 5))
+          for name in base}
 boxes = {name: (-50, -300, chance.choice((900, 1200)), 1500, *varying().values()) for name in base
          if chance.random() < 0.6}
 more = {"clipBoxes": boxes} if version else {}
@@ -172,7 +174,7 @@ class Recipe(NamedTuple):
     source: str
     package: str
     version: int
-    count: int
+    coloured: int
     cuts: ColourCuts = LAYOUT_CUTS
 
 
@@ -207,7 +209,8 @@ def colour_fonts() -> list[ColourFont]:
         if not os.path.exists(recipe.source):
             skip(recipe.name, f"Debian's package {recipe.package} is not installed")
             continue
-        status, _, err = run(PYTHON, "-c", BUILT, recipe.source, path, str(recipe.version), str(at), str(recipe.count))
+        words = [recipe.source, path, *map(str, (recipe.version, at, recipe.coloured))]
+        status, _, err = run(PYTHON, "-c", BUILT, *words)
         if b"No module named 'fontTools'" in err:
             skip(recipe.name, "Debian's package python3-fonttools is not installed")
             continue

@@ -3,7 +3,7 @@ there is none.
 
 What two cuts have in common of COLR is its frame; what is said of a glyph is compared and united with its outline.
 """
-from typing import Callable, Optional
+from typing import Callable, Mapping, Optional
 
 from colour_cutting import COLOURS, LAYOUT_CUTS, VARIABLE, ColourCuts, glyph_count
 from colour_reading import Colour
@@ -55,3 +55,4 @@ def with_colours(plain: Kind, cuts: ColourCuts) -> ColourJoins:
 
 LAYOUT_JOINS = with_colours(layout_joining.LAYOUT_CUTS, LAYOUT_CUTS)
 VARIABLE_JOINS = with_colours(variable_joining.VARIABLE_CUTS, VARIABLE)
+JOINED: Mapping[str, ColourJoins] = {"layout": LAYOUT_JOINS, "variable": VARIABLE_JOINS}

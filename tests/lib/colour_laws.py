@@ -2,17 +2,19 @@
 import random
 from typing import Container, Iterator, NamedTuple, Optional, Sequence
 
-from colour_cutting import LAYOUT_CUTS, STILL, VARYING, ColourCuts, Division
-from colour_making import coloured, other_colours, palettes, random_colours, random_table, scattered, with_colours
-from colour_reading import Colour, Colours, colours_in
+from colour_cutting import LAYOUT_CUTS, STILL, ColourCuts, Division
+from colour_making import other_colours, palettes, random_colours, scattered, with_colours
+import colour_reading
+from colour_reading import Colour, Colours, Store, colours_in
 from font_cutting import outlines, ranges_of, wanted_map
 from font_reading import tables_of
 from glyph_cutting import EVERYTHING, LEAN, Wanted, either
-from glyph_laws import Law, laws_of_cut, laws_of_two, laws_of_union
+from glyph_laws import Law, laws_of_cut, laws_of_files, laws_of_two, laws_of_union
 from glyph_making import another_version, font_for, random_wanted
 from layout_reading import links_of
 from lean_joining import Kind
 from random_joins import damaged
+from spoiled_colours import coloured, random_table
 
 COUNT = 8  # glyphs of the fonts of tables by themselves
 EVERY = frozenset(range(COUNT))
@@ -22,10 +24,18 @@ SAYS = "a cut says of kept glyphs what the table says"
 UNION = "the join of cuts is the cut of the union"
 ALIKE = "a table is read alike with what varies and without it"
 FRAME = "a frame is its own frame, and says nothing of glyphs"
+STORE = "a frame has what varies, if that is kept"
 WITHOUT = "the cut without what varies of a cut with it is that of the table"
 
 
 # Tables by themselves.
+
+def with_limits(small: bool) -> None:
+    """Sets small limits in this process, or the right ones."""
+    limits = (4, 120, 4) if small else (65_535, 16_777_215, 64)
+    colour_reading.MOST_LAYERS, colour_reading.MOST_BYTES, colour_reading.MOST_DEPTH = limits
+    colours_in.cache_clear()
+
 
 def said_in(table: bytes) -> dict[int, Colour]:
     """What a table says of glyphs, whatever the definition of its parts."""
@@ -67,6 +77,9 @@ def laws_of_table(chance: random.Random, division: Division, table: bytes) -> It
     one, other, third = (some_glyphs(chance) for _ in range(3))
     yield ALIKE, (STILL.read(table, COUNT) is None) == (division.read(table, COUNT) is None)
     yield FRAME, division.frame(frame, COUNT) == frame and said_in(frame) == {}
+    varying, found = colours_in(table, COUNT), colours_in(frame, COUNT)
+    yield STORE, varying is None or found is not None and found.store == (
+        varying.store if division.varies else Store())
     yield "parts of a table fit its frame", division.fits(frame, COUNT, parts)
     whole, made = cut_of(division, table, EVERY), cut_of(division, table, one)
     yield "the table of all parts says what the table says", said_in(whole) == said
@@ -187,7 +200,7 @@ def laws_of_colours(cuts: ColourCuts, font: bytes, wanted: Wanted) -> Iterator[L
             made, EVERYTHING) == LAYOUT_CUTS.cut(font, Wanted(wanted.codes, frozenset(kept)))
 
 
-def laws_of_closures(cuts: ColourCuts, font: bytes, first: Wanted, second: Wanted, gsub: bytes) -> Iterator[Law]:
+def laws_of_closures(cuts: ColourCuts, font: bytes, gsub: bytes, first: Wanted, second: Wanted) -> Iterator[Law]:
     """The laws of what is wanted with what colours and links of a GSUB lead to."""
     links, names = links_of(gsub), cuts.names(font)
     assert links is not None, "the font is refused"
@@ -223,8 +236,19 @@ def laws_of_font(kind: Kind, font: bytes, sets: Sequence[Wanted]) -> Iterator[La
     yield from laws_of_two(cuts, font, *sets[:2])
     yield from laws_of_union(kind, font, sets)
     if not cuts.exact_refusal(font):
-        yield from laws_of_closures(cuts, font, *sets[:2], b"")
+        yield from laws_of_closures(cuts, font, b"", *sets[:2])
     if not cuts.closing_refusal(font):
-        yield from laws_of_closures(cuts, font, *sets[:2], cuts.gsub(font))
+        yield from laws_of_closures(cuts, font, cuts.gsub(font), *sets[:2])
 
 
+def font_laws_of_round(seed: int, kind: Kind) -> Iterator[tuple[Law, object]]:
+    """The laws of a family of fonts, their cuts and changed cuts."""
+    chance, cuts = random.Random(seed), kind.cuts
+    assert isinstance(cuts, ColourCuts), "its cuts keep colours"
+    fonts, files = colour_family(chance, cuts, chance.randint(1, 3), 5)
+    for font in fonts:
+        sets = [random_wanted(chance, len(outlines(font))) for _ in range(3)]
+        for law in laws_of_font(kind, font, sets):
+            yield law, (font.hex(), sets)
+    for law in laws_of_files(chance, kind, files, fonts):
+        yield law, [file.hex() for file in files]

@@ -1,7 +1,8 @@
 """A small reading of colour tables, apart from the program: what a COLR says of each glyph, and the table that says so.
 
 It follows OpenType 1.9, COLR, and for what varies "OpenType Font Variations Common Table Formats". That a table is read
-strictly or not at all, that depth and sizes are bounded, and that what is written shares nothing, is this project's own.
+strictly or not at all, that depth and sizes are bounded, and that nothing that is written is shared, is this project's
+own.
 """
 import struct
 from functools import lru_cache
@@ -69,7 +70,7 @@ BOXES = {1: Form(9), 2: Form(13)}  # ClipBox, format 1 and 2
 
 class Piece(NamedTuple):
     """A paint, color line, affine or clip box, with zeros for its offsets and for firstLayerIndex, and what these lead
-    to, in their order. Of all that there are the size in bytes, how deep it is nested, and the glyphs that are named."""
+    to, in their order; the size of all in bytes, how deep it is nested, and the glyphs that are named."""
 
     size: int
     kind: str
@@ -182,7 +183,8 @@ class Reader:
     def own_layers(self) -> dict[int, Layers]:
         """The layers of version 0 of each base glyph."""
         bases = self.plain_rows(4, number(self.table, 2, 2), BASE)
-        layers = [(number(row, 0, 2), number(row, 2, 2)) for row in self.plain_rows(8, number(self.table, 12, 2), LAYER)]
+        rows = self.plain_rows(8, number(self.table, 12, 2), LAYER)
+        layers = [(number(row, 0, 2), number(row, 2, 2)) for row in rows]
         found, least = dict[int, Layers](), 0
         for glyph, first, count in struct.iter_unpack(">HHH", b"".join(bases)):
             ensure(least <= glyph < self.count and first + count <= len(layers))

@@ -113,6 +113,6 @@ NOT_READ = [
     ("a paint of format 0", with_byte(PAINTS, 50, 0)), ("PaintGlyph of no glyph", with_byte(PAINTS, 55, 5)),
     ("PaintColrGlyph of no glyph", with_byte(PAINTS, 112, 5)), ("layers past LayerList", with_byte(PAINTS, 66, 1)),
     ("a color line at 0", with_byte(PAINTS, 88, 0)), ("a clip box of format 3", with_byte(PAINTS, 125, 3)),
-    ("ClipList of format 2", with_byte(PAINTS, 113, 2)), ("a clip that ends before it begins", with_byte(PAINTS, 119, 3)),
+    ("ClipList of format 2", with_byte(PAINTS, 113, 2)), ("a clip that ends too early", with_byte(PAINTS, 119, 3)),
     ("a clip of no glyph", with_byte(PAINTS, 121, 5)), ("a clip box that is not all there", PAINTS[:-1]),
 ]
