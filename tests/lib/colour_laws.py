@@ -204,26 +204,29 @@ def laws_of_closures(cuts: ColourCuts, font: bytes, gsub: bytes, first: Wanted, 
     """The laws of what is wanted with what colours and links of a GSUB lead to."""
     links, names = links_of(gsub), cuts.names(font)
     assert links is not None, "the font is refused"
+    one, other, both = (cuts.closed(font, wanted, gsub) for wanted in (first, second, either(first, second)))
+    yield "a closure grows", first.glyphs <= one.glyphs
+    yield "the closure of a union is the union of the closures", both.glyphs == one.glyphs | other.glyphs
+    yield "a closure is its own closure", cuts.closed(font, one, gsub) == one
+    roots = one.glyphs | {0, *wanted_map(font, first.codes).values()}
+    yield "a closure is closed under links and colours", all(
+        links.get(glyph, set()) <= one.glyphs and names.get(glyph, frozenset()) <= one.glyphs for glyph in roots)
 
+
+def laws_of_closed_cuts(cuts: ColourCuts, font: bytes, gsub: bytes, first: Wanted, second: Wanted) -> Iterator[Law]:
+    """The laws of cuts for that."""
     def closed(file: bytes, wanted: Wanted) -> Wanted:
         return cuts.closed(file, wanted, gsub)
 
     def closed_cut(file: bytes, wanted: Wanted) -> bytes:
         return cuts.cut(file, closed(file, wanted))
 
-    one, other, both = (closed(font, wanted) for wanted in (first, second, either(first, second)))
-    yield "a closure grows", first.glyphs <= one.glyphs
-    yield "the closure of a union is the union of the closures", both.glyphs == one.glyphs | other.glyphs
-    yield "a closure is its own closure", closed(font, one) == one
-    roots = one.glyphs | {0, *wanted_map(font, first.codes).values()}
-    yield "a closure is closed under links and colours", all(
-        links.get(glyph, set()) <= one.glyphs and names.get(glyph, frozenset()) <= one.glyphs for glyph in roots)
     made, whole = cuts.cut(font, second), closed_cut(font, either(first, second))
     inner = Wanted(ranges_of(wanted_map(made, first.codes)), first.glyphs)
     yield "on a cut the closure is within that on the font", closed(made, first).glyphs <= closed(font, inner).glyphs
     yield "a closed cut of a closed cut is that of the font", closed_cut(whole, first) == closed_cut(font, first)
     yield "a closed cut says of what was wanted what the font says, and of all that it leads to", all(
-        cuts.colours(whole).get(glyph) == cuts.colours(font).get(glyph) for glyph in one.glyphs)
+        cuts.colours(whole).get(glyph) == cuts.colours(font).get(glyph) for glyph in closed(font, first).glyphs)
 
 
 def laws_of_font(kind: Kind, font: bytes, sets: Sequence[Wanted]) -> Iterator[Law]:
@@ -235,10 +238,10 @@ def laws_of_font(kind: Kind, font: bytes, sets: Sequence[Wanted]) -> Iterator[La
         yield from laws_of_colours(cuts, font, wanted)
     yield from laws_of_two(cuts, font, *sets[:2])
     yield from laws_of_union(kind, font, sets)
-    if not cuts.exact_refusal(font):
-        yield from laws_of_closures(cuts, font, b"", *sets[:2])
-    if not cuts.closing_refusal(font):
-        yield from laws_of_closures(cuts, font, cuts.gsub(font), *sets[:2])
+    links = [b""] * (not cuts.exact_refusal(font)) + [cuts.gsub(font)] * (not cuts.closing_refusal(font))
+    for gsub in links:
+        yield from laws_of_closures(cuts, font, gsub, *sets[:2])
+        yield from laws_of_closed_cuts(cuts, font, gsub, *sets[:2])
 
 
 def font_laws_of_round(seed: int, kind: Kind) -> Iterator[tuple[Law, object]]:
@@ -252,3 +255,13 @@ def font_laws_of_round(seed: int, kind: Kind) -> Iterator[tuple[Law, object]]:
             yield law, (font.hex(), sets)
     for law in laws_of_files(chance, kind, files, fonts):
         yield law, [file.hex() for file in files]
+
+
+def closure_laws_of_round(seed: int, cuts: ColourCuts) -> Iterator[tuple[Law, object]]:
+    """The laws of closures in a font."""
+    chance = random.Random(seed)
+    font = colour_font(chance, cuts)
+    first, second = (random_wanted(chance, len(outlines(font))) for _ in range(2))
+    if not cuts.closing_refusal(font):
+        for law in laws_of_closures(cuts, font, cuts.gsub(font), first, second):
+            yield law, (font.hex(), first, second)

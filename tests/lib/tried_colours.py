@@ -11,7 +11,7 @@ from checks import DONE, NO_WORDS, built, by_fonttools, check, held, put, quiet,
 from colour_cutting import LAYOUT_CUTS, VARIABLE, ColourCuts
 from colour_fonts import ColourFont, colour_fonts
 from colour_joining import JOINED
-from colour_laws import colour_family, colour_font
+from colour_laws import colour_font, with_other_colours
 from colour_making import (INDEX_MAP, STORE, box_of, glyph_paint, layered, moved, of_glyph, palettes, scattered, solid,
                            with_colours)
 from colour_reading import Colour, Colours, Store, colour_table
@@ -110,7 +110,8 @@ def of_colour_font(font: ColourFont) -> None:
         out = os.path.join(folder, "out.ttf")
         for number, made in enumerate(files):
             put(out, made)
-            sanitized_as_font(f"{font.name}, {number}", font.path, out)
+            if whole_map(made):  # ots-sanitize refuses a mapping of nothing
+                sanitized_as_font(f"{font.name}, {number}", font.path, out)
         exact = [font.cuts.closed(file, wanted, b"") for wanted in sets]
         wanted_bytes, paths = font.cuts.cut(file, either(*exact)), put_all(folder, files)
         for number in range(TREES):
@@ -304,11 +305,14 @@ def most_bytes(cuts: ColourCuts, folder: str) -> None:
 
 
 def random_joins(cuts: ColourCuts, folder: str) -> None:
-    """Joins of cuts of versions of a font, some of them changed."""
+    """Joins of cuts of versions of a font, in which a glyph has other colours."""
     chance = random.Random(f"joins of colours {cuts.name}")
 
     def files() -> list[bytes]:
-        return colour_family(chance, cuts, chance.randint(1, 2), chance.randint(2, 3))[1]
+        font = colour_font(chance, cuts)
+        versions = [font, with_other_colours(chance, font), font]
+        sets = [random_wanted(chance, len(outlines(font))) for _ in range(chance.randint(2, 4))]
+        return [cuts.cut(chance.choice(versions), one) for one in sets]
 
     join_as_joiner(folder, JOINS, files, partial(join_all, kind=JOINED[cuts.name]), option(cuts),
                    differences=("21 different table", "23 different glyph"))

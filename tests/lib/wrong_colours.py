@@ -4,7 +4,8 @@ from typing import Callable, Container, Iterator, Mapping, NamedTuple, Optional
 
 from colour_cutting import STILL, ColourCuts, Division
 from colour_joining import JOINED
-from colour_laws import ALIKE, FRAME, READ_BACK, SAYS, STORE, UNION, font_laws_of_round, laws_by_chance
+from colour_laws import (ALIKE, FRAME, READ_BACK, SAYS, STORE, UNION, closure_laws_of_round, font_laws_of_round,
+                         laws_by_chance)
 from colour_reading import LAYERS, PAINT, Colour, Colours, NotRead, Piece, Reader, Store, number
 from font_reading import tables_of
 from glyph_cutting import CutKind, Wanted
@@ -141,6 +142,10 @@ def of_cuts(wrong: type[ColourCuts], law: str, name: str = "layout") -> Wrong:
     return Wrong(wrong.__name__, law, partial(font_laws_of_round, kind=kind._replace(cuts=wrong(*kind.cuts))))
 
 
+def of_closures(wrong: type[ColourCuts], law: str, name: str = "layout") -> Wrong:
+    return Wrong(wrong.__name__, law, partial(closure_laws_of_round, cuts=wrong(*JOINED[name].cuts)))
+
+
 UPPER_BOUND = "a join is a cut of which both files are cuts"
 WRONG = [
     of_division(BadStoresAreWhole, ALIKE, True), of_division(BoundsAreNotSeen, READ_BACK, small=True),
@@ -148,8 +153,8 @@ WRONG = [
     of_division(LayersOfOtherGlyphsGo, UNION), of_division(PaintsOfOtherGlyphsGo, UNION),
     of_division(StoresAreForgotten, STORE, True), of_division(IndicesStay, UNION),
     of_cuts(OnlyLayersAreCounted, "glyphs with colours are there"),
-    of_cuts(ColoursAreFollowedLast, "a closure is its own closure"),
-    of_cuts(ColoursAreNotFollowedOn, "a closure is closed under links and colours", "variable"),
+    of_closures(ColoursAreFollowedLast, "a closure is its own closure"),
+    of_closures(ColoursAreNotFollowedOn, "a closure is closed under links and colours", "variable"),
     of_cuts(PalettesStay, "CPAL is the font's beside a COLR, and else there is none"),
     Wrong("ColoursAreNotCompared", UPPER_BOUND, partial(
         font_laws_of_round, kind=ColoursAreNotCompared(*JOINED["layout"]))),
