@@ -7,7 +7,8 @@ import tempfile
 from functools import cache, partial
 from typing import NamedTuple, Optional, Sequence
 
-from checks import DONE, NO_WORDS, built, by_fonttools, check, held, put, quiet, read, room, same, same_bytes, skip, spread
+from checks import (DONE, NO_WORDS, built, by_fonttools, check, held, put, quiet, read, room, same, same_bytes, skip,
+                    spread)
 from colour_cutting import LAYOUT_CUTS, VARIABLE, ColourCuts
 from colour_fonts import ColourFont, colour_fonts
 from colour_joining import JOINED
