@@ -190,7 +190,7 @@ def twemoji() -> Optional[str]:
     """The path of Twemoji Mozilla, which is installed, or taken out of its package, or None."""
     if os.path.exists(TWEMOJI):
         return TWEMOJI
-    packages = sorted(glob.glob(os.environ.get("FIREFOX_PACKAGE", PACKAGES)))
+    packages = sorted(glob.glob(PACKAGES))
     if not packages:
         return None
     path = os.path.join(room(), "TwemojiMozilla.ttf")
