@@ -82,6 +82,19 @@ function axesOf(font) {
         font.toString('latin1', first + i * size, first + i * size + 4).trim());
 }
 
+// Whether a font kerns: whether it has a table `kern`, or a feature `kern` in its GPOS. OpenType 1.9, kern; FeatureList.
+function hasKerning(font) {
+    const places = recordsOf(font), kern = places.get('kern'), record = places.get('GPOS');
+    const gpos = record === undefined ? 0 : font.readUInt32BE(record + 8);
+    const at = (place) => (place + 2 <= font.length ? font.readUInt16BE(place) : 0);
+    const list = gpos ? gpos + at(gpos + 6) : 0, count = list ? at(list) : 0;
+    const tags = Array.from({ length: count }, (_, i) => font.toString('latin1', list + 2 + 6 * i, list + 6 + 6 * i));
+    return (kern !== undefined && font.readUInt32BE(kern + 12) > 0) || tags.includes('kern');
+}
+
+// Whether a font maps two characters of texts that are no spaces.
+const mapsTwo = (font, texts) => codesIn(shared(codes(font), texts)).filter((code) => !isSpace(code)).length > 1;
+
 const wordOf = (code) => `U+${code.toString(16).toUpperCase()}`;
 
 function shownWord(code) {
@@ -140,6 +153,8 @@ export function* lossesOf(name, font, kind, { wanted, named, texts, hasGlyphs, l
     const all = merged(wanted), scripts = scriptsOf(font, kind, all), found = lost(font, { unicodes: all, kind });
     if (scripts.length) {
         yield `${name} shapes ${scripts.join(', ')}, which this cut drops: add --layout`;
+    } else if (!SHAPED.includes(kind) && hasKerning(font) && mapsTwo(font, merged(texts))) {
+        yield `${name} has kerning, which this cut drops: add --layout`;
     }
     if (found.axes) {
         yield `${name} varies ${axesOf(font).join(', ')}: add --variable, or --quiet`;

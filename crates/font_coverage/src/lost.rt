@@ -5,7 +5,9 @@ use codes::{CODES, Wanted};
 use font_file::Font;
 use font_map::Chart;
 use font_subset::keeps_layout;
-use font_texts::{Shown, axis_tags, complex_scripts, lists_scripts, next_complex, shaped_scripts};
+use font_texts::{
+    Shown, axis_tags, complex_scripts, has_kerning, lists_scripts, next_complex, shaped_scripts,
+};
 use font_theory::Kind;
 use sfnt_bytes::Tag;
 use std::alloc::{AllocError, Global};
@@ -146,7 +148,41 @@ fn lost_scripts(alloc: Global, font: &Font<'_>, asked: Asked<'_>) -> Result<Stri
     }
 }
 
-// Adds a line that names the scripts that are no longer shaped, where there are such.
+// Returns whether a font maps two characters of texts that are no spaces.
+fn maps_two(font: &Font<'_>, texts: &Wanted) -> bool {
+    let mut maps_one = false;
+    let mut from = AFTER_SPACE;
+    // No set has more characters than there are code points.
+    for _ in 0..CODES {
+        let Some(range) = texts.row_from(from) else {
+            return false;
+        };
+        let code = range.first.max(from);
+        if code != HARD_SPACE && font.mapping().glyph(code) != 0 {
+            if maps_one {
+                return true;
+            }
+            maps_one = true;
+        }
+        from = code.saturating_add(1);
+    }
+    false
+}
+
+// Adds a line that says that a font kerns, where the cut drops that and its texts have letters to kern.
+fn add_kerning(text: &mut String, font: &Font<'_>, asked: Asked<'_>) -> Result<(), AllocError> {
+    if keeps_layout(asked.kind) || !has_kerning(font) || !maps_two(font, asked.texts) {
+        return Ok(());
+    }
+    let name = Shown(asked.name);
+    write!(
+        text,
+        "fontcut: {name} has kerning, which this cut drops: add --layout\n"
+    )?;
+    Ok(())
+}
+
+// Adds a line that names the scripts that are no longer shaped, where there are such, and else one on kerning.
 fn add_scripts(
     alloc: Global,
     text: &mut String,
@@ -155,7 +191,7 @@ fn add_scripts(
 ) -> Result<(), AllocError> {
     let scripts = lost_scripts(alloc, font, asked)?;
     if scripts.is_empty() {
-        return Ok(());
+        return add_kerning(text, font, asked);
     }
     let name = Shown(asked.name);
     write!(

@@ -1,6 +1,6 @@
 //! The scripts whose text a font shapes, by its GSUB and GPOS. OpenType 1.9, Script Tags; OpenType Layout Common Table
 //! Formats, ScriptList. Unicode, UAX 24.
-use crate::table_bytes::{number_at, table_named};
+use crate::table_bytes::{has_tag, table_named, tagged_records};
 use font_file::Font;
 use sfnt_bytes::Tag;
 use std::alloc::{AllocError, Global};
@@ -352,29 +352,15 @@ yi  |Yi\n\
 // The tag for all scripts.
 const ALL: &[u8] = b"DFLT";
 
-// The bytes of a tag, and of the record of a script: its tag and an offset.
+// The bytes of a tag.
 const TAG: usize = 4;
 
-const RECORD: usize = 6;
-
-// Returns the records of the scripts that a table of layout lists.
-fn script_records(table: &[u8]) -> &[u8] {
-    let list = table.get(number_at(table, TAG)..).unwrap_or(&[]);
-    let records = list.get(2..).unwrap_or(&[]);
-    let length = number_at(list, 0).saturating_mul(RECORD);
-    records.get(..length).unwrap_or(records)
-}
+// Where a table of layout has the offset of its list of scripts.
+const SCRIPTS: usize = 4;
 
 // Returns the records of the scripts that a font's first table of a name lists.
 fn records_of<'a>(font: &Font<'a>, name: Tag) -> &'a [u8] {
-    script_records(table_named(font, name))
-}
-
-// Returns whether some records of scripts have a tag.
-fn has_tag(records: &[u8], tag: &[u8]) -> bool {
-    records
-        .chunks_exact(RECORD)
-        .any(|record| record.starts_with(tag))
+    tagged_records(table_named(font, name), SCRIPTS)
 }
 
 // The records of the scripts that the GSUB and the GPOS of a font list.

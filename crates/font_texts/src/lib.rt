@@ -3,6 +3,7 @@
 #![tactic(auto)]
 
 mod font_scripts;
+mod kerning;
 mod shown;
 mod style_sheet;
 mod table_bytes;
@@ -11,6 +12,7 @@ mod variations;
 pub use crate::font_scripts::{
     complex_count, complex_scripts, lists_scripts, next_complex, shaped_scripts,
 };
+pub use crate::kerning::has_kerning;
 pub use crate::shown::{Shown, ShownWord, shown_character};
 pub use crate::style_sheet::add_rule;
 pub use crate::table_bytes::{long_at, number_at, table_named};
