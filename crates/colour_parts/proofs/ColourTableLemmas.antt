@@ -8,8 +8,10 @@ use Rattle.colour_tables.specs.Stores.{Store, no_store, store_of}
 use Rattle.font_theory.specs.Content.{glyph_count}
 use Rattle.colour_parts.specs.ColourTables.{colours, either_parting, varying_colours}
 use Rattle.colour_parts.specs.Laws.{ColourTablesAreDivided, DividesColours}
-use Rattle.colour_parts.specs.LayerTables.{is_layer_table, layer_way}
-use Rattle.colour_parts.specs.PaintTables.{is_paint_table, paint_way, still_way, varying_way}
+use Rattle.colour_tables.specs.LayerLists.{is_layer_table}
+use Rattle.colour_parts.specs.LayerTables.{layer_way}
+use Rattle.colour_tables.specs.PaintLists.{is_paint_table}
+use Rattle.colour_parts.specs.PaintTables.{paint_way, still_way, varying_way}
 use Rattle.font_theory.specs.Parting.{Parting}
 use Rattle.colour_parts.specs.Ways.{IsWay, parting_by}
 use Rattle.colour_parts.proofs.LayerTableLemmas.{layer_tables_are, layer_way_is}

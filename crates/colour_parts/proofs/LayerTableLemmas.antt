@@ -12,7 +12,8 @@ use Rattle.colour_tables.specs.declared.layer.Layer.{Layer}
 use Rattle.colour_tables.proofs.GlyphLemmas.{listed-same, each-from, each-same, sum-less, sum-same}
 use Rattle.colour_tables.proofs.LayerReadLemmas.{read_back}
 use Rattle.colour_parts.specs.Laws.{LayerTablesAreDivided}
-use Rattle.colour_parts.specs.LayerTables.{is_layer_table, layer_way}
+use Rattle.colour_tables.specs.LayerLists.{is_layer_table}
+use Rattle.colour_parts.specs.LayerTables.{layer_way}
 use Rattle.colour_parts.specs.Ways.{IsWay}
 use Rattle.colour_parts.proofs.WayLemmas.{way_parts}
 

@@ -18,7 +18,8 @@ use Rattle.colour_tables.specs.declared.shape.Kind.TheVariants.{ClipBox, Paint}
 use Rattle.colour_tables.proofs.GlyphLemmas.{listed-same, sum-less, sum-same}
 use Rattle.colour_tables.proofs.PaintTableLemmas.{paints_back}
 use Rattle.colour_parts.specs.Laws.{PaintTablesAreDivided}
-use Rattle.colour_parts.specs.PaintTables.{is_paint_table, no_colour, paint_way, still_way, varying_way}
+use Rattle.colour_tables.specs.PaintLists.{is_paint_table, no_colour}
+use Rattle.colour_parts.specs.PaintTables.{paint_way, still_way, varying_way}
 use Rattle.colour_parts.specs.Ways.{IsWay, Says}
 use Rattle.colour_parts.proofs.LayerTableLemmas.{room_less, room_same}
 use Rattle.colour_parts.proofs.WayLemmas.{way_parts}

@@ -7,8 +7,9 @@ use Rattle.colour_tables.specs.Stores.{no_store, store_of}
 use Rattle.font_theory.specs.Content.{glyph_count}
 use Rattle.font_theory.specs.Parting.{Tables}
 use Rattle.colour_parts.specs.ColourTables.{colours, either_parting, varying_colours}
-use Rattle.colour_parts.specs.LayerTables.{is_layer_table}
-use Rattle.colour_parts.specs.PaintTables.{is_paint_table, no_colour, paint_way, still_way, varying_way}
+use Rattle.colour_tables.specs.LayerLists.{is_layer_table}
+use Rattle.colour_tables.specs.PaintLists.{is_paint_table, no_colour}
+use Rattle.colour_parts.specs.PaintTables.{paint_way, still_way, varying_way}
 use Rattle.colour_parts.specs.Telling.{StillOfVarying}
 use Rattle.colour_parts.specs.Ways.{parting_by}
 use Rattle.colour_parts.proofs.ColourTableLemmas.{colour_tables_are, one_version}

@@ -2,7 +2,8 @@
 use Rattle.std.specs.Prelude.{ℕ, Bool, List, if◌then◌else◌}
 use Rattle.font_theory.specs.Content.{glyph_count}
 use Rattle.font_theory.specs.Parting.{Parting}
-use Rattle.colour_parts.specs.LayerTables.{is_layer_table, layer_way}
+use Rattle.colour_tables.specs.LayerLists.{is_layer_table}
+use Rattle.colour_parts.specs.LayerTables.{layer_way}
 use Rattle.colour_parts.specs.PaintTables.{still_way, varying_way}
 use Rattle.colour_parts.specs.Ways.{parting_by}
 

@@ -7,8 +7,10 @@ use Rattle.colour_tables.specs.PaintLists.{colour_at}
 use Rattle.font_theory.specs.Content.{glyph_count}
 use Rattle.font_theory.specs.Parting.{Parting, Tables}
 use Rattle.colour_parts.specs.ColourTables.{colours, varying_colours}
-use Rattle.colour_parts.specs.LayerTables.{is_layer_table, layer_way}
-use Rattle.colour_parts.specs.PaintTables.{is_paint_table, still_way, varying_way}
+use Rattle.colour_tables.specs.LayerLists.{is_layer_table}
+use Rattle.colour_parts.specs.LayerTables.{layer_way}
+use Rattle.colour_tables.specs.PaintLists.{is_paint_table}
+use Rattle.colour_parts.specs.PaintTables.{still_way, varying_way}
 use Rattle.colour_parts.specs.Ways.{Says, Way, parting_by}
 
 -- the parts of a table for the glyphs that are kept

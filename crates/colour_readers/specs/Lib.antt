@@ -1,0 +1,3 @@
+pub mod Rooms
+pub mod Trees
+pub mod RowsOf
