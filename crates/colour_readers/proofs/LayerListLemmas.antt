@@ -98,9 +98,9 @@ layers_fail t b n at j g h e x s =
     ∙ ap (λ z. z && list_all (is_below n) (drop (j + 1) (layers_of t b)))
     (le-ltb there.0.glyph n (omega (arith, there.1, s)))
 
-layers-long : (t : List ℕ) (b : Base) → length (layers_of t b) ≡ b.count
+pub layers_long : (t : List ℕ) (b : Base) → length (layers_of t b) ≡ b.count
 unfolding layers_of
-layers-long t b = rows-long layers_in layer_row 4 layers-rows b.count (drop (layers_offset t + 4 * b.first) t)
+layers_long t b = rows-long layers_in layer_row 4 layers-rows b.count (drop (layers_offset t + 4 * b.first) t)
 
 -- what base glyphs are found
 abbrev pub glyph_of : Base → ℕ
@@ -141,7 +141,7 @@ counts-total t [] = refl
 counts-total t (b ∷ bs) =
     let one : b.glyph + 1 - b.glyph ≡ 1 = omega arith in
     ap (λ (m : ℕ). m * length (layers_of t b) + total glyph_of glyph_of (λ b. length (layers_of t b)) bs) one
-    ∙ omega (arith, layers-long t b, counts-total t bs)
+    ∙ omega (arith, layers_long t b, counts-total t bs)
 
 mapped : {A B C : Type 0} (f : B → C) (h : A → B) (o : Option A) (d : C)
     → option_map_or f (option_map h o) d ≡ option_map_or (λ a. f (h a)) o d
@@ -211,7 +211,7 @@ left_no_room n t room bs rest b e l =
     (and_right (has_layers n t b) (leb b.count room) (lt-leb b.count room l))
 
 pub layers_end : (t : List ℕ) (b : Base) (j : ℕ) → b.count ≤ j → drop j (layers_of t b) ≡ []
-layers_end t b j h = drop_all j (layers_of t b) (omega (arith, h, layers-long t b))
+layers_end t b j h = drop_all j (layers_of t b) (omega (arith, h, layers_long t b))
 
 pub layers_room : (n : ℕ) (t : List ℕ) → has_layer_lists n t ≡ true
     → is_some (layers_left n t MAX_ROOM (bases_of t)) ≡ layers_have_room n (layers_at t)
@@ -246,7 +246,7 @@ same_first xs ys rest others j x y e h same =
     ap (λ (zs : List Layer). get_or zs 0 x) (sym e ∙ ap (drop j) same ∙ h)
 
 pub same_length : (t u : List ℕ) (b c : Base) → layers_of t b ≡ layers_of u c → b.count ≡ c.count
-same_length t u b c e = sym (layers-long t b) ∙ ap length e ∙ layers-long u c
+same_length t u b c e = sym (layers_long t b) ∙ ap length e ∙ layers_long u c
 
 pub same_end : (t u : List ℕ) (b c : Base) (j : ℕ) → b.count ≤ j → c.count ≤ j
     → (drop j (layers_of t b) ≡ drop j (layers_of u c) → layers_of t b ≡ layers_of u c)

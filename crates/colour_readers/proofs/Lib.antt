@@ -8,3 +8,5 @@ pub mod PaintListLemmas
 pub mod RowLemmas
 pub mod TableLemmas
 pub mod SameLemmas
+pub mod SubtreeLemmas
+pub mod TableTreeLemmas

@@ -109,8 +109,8 @@ fn are_layers(t: &[u8], base: Base, n: u16) -> bool
     true
 }
 
-// Returns a layer of a base glyph.
-fn layer_at(t: &[u8], base: Base, j: u16) -> Layer
+/// Returns a layer of a base glyph.
+pub(crate) fn layer_at(t: &[u8], base: Base, j: u16) -> Layer
     requires { j < base.count }
     ensures { drop j (layers_of t.now base) ≡ result ∷ drop (j + 1) (layers_of t.now base) }
 {

@@ -1,7 +1,7 @@
 //! What an offset of a colour table leads to: its fields, and the offsets among them. OpenType 1.9, COLR, Paint
 //! tables; ColorLine, VarColorLine; Affine2x3, VarAffine2x3; ClipBox.
 ghost use Rattle.std.specs.Prelude.{◌≡◌, ◌+◌, ◌-◌, ◌<◌, ◌≤◌, ◌^◌, IfSome, None, drop, if◌then◌else◌, length, nat_eq, slice_get, slice_index};
-ghost use Rattle.colour_tables.specs.Paints.{paint_shapes, place_from, shape_of, shape_size};
+ghost use Rattle.colour_tables.specs.Paints.{paint_shapes, place_from, rest_of, shape_of, shape_size};
 ghost use Rattle.colour_tables.specs.PaintLists.{count_at, layer_places_of};
 ghost use Rattle.colour_readers.specs.Trees.{box_shape, glyph_named, link_at, link_count, names_in, shape_at};
 
@@ -204,5 +204,18 @@ pub(crate) fn link_at(t: &[u8], shape: Shape, at: usize, i: u8) -> (usize, Kind)
             layer_place(t, u32_at(b, 2) as usize + usize::from(i)),
             Kind::Paint,
         ),
+    }
+}
+
+/// Returns the bytes of a shape but for the first and for offsets.
+pub(crate) fn rest_of(b: &[u8], shape: Shape) -> &[u8]
+    requires { shape_size shape ≤ length b.now }
+    ensures { result.now ≡ rest_of shape b.now }
+{
+    match shape {
+        Shape::Plain(more) => &b[1..1 + more as usize],
+        Shape::One(more, _) => &b[4..4 + more as usize],
+        Shape::Two(more, _, _) => &b[4..4 + more as usize],
+        Shape::Layers => &b[1..2],
     }
 }

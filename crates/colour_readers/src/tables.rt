@@ -1,6 +1,8 @@
 //! Colour tables that are open. OpenType 1.9, COLR.
-ghost use Rattle.std.specs.Prelude.{◌≡◌, ◌<◌, ◌≤◌, ℕ, find, nat_eq, IfSome, IsFalse, IsTrue, MatchOption, true, false, is_some};
+ghost use Rattle.std.specs.Prelude.{◌≡◌, ◌<◌, ◌≤◌, ◌++◌, ℕ, OnErr, OnOk, find, nat_eq, IfSome, IsFalse, IsTrue, MatchOption, true, false, is_some};
+ghost use Rattle.sfnt_bytes.specs.Memory.{IsRefused};
 ghost use Rattle.sfnt_bytes.specs.Number.{u32_at};
+ghost use Rattle.colour_tables.specs.NamedGlyphs.{colour_names, layer_names};
 ghost use Rattle.std.specs.Option.{option_and_then, option_map};
 ghost use Rattle.colour_tables.specs.ListedGlyphs.{said_of};
 ghost use Rattle.colour_tables.specs.LayerLists.{base_count, bases_of, has_layer_lists, layers_at, layers_of};
@@ -8,14 +10,20 @@ ghost use Rattle.colour_tables.specs.PaintLists.{box_at, clip_place, clips_of, c
 ghost use Rattle.colour_tables.specs.LayerLists.{is_layer_table};
 ghost use Rattle.colour_tables.specs.PaintLists.{has_colour, is_paint_table};
 ghost use Rattle.colour_readers.specs.RowsOf.{AreRowsAt};
+ghost use Rattle.colour_readers.specs.Subtrees.{tree_of};
 
 use crate::fields::{u16_at, u32_at};
+use crate::glyph_layers::GlyphLayers;
 use crate::layer_lists::{base_at, count_bases, has_same_layers, is_layer_table};
+use crate::names::{add_layers, add_tree};
 use crate::paint_lists::{clip_at, is_paint_table, root_at};
 use crate::rows::{Rows, has_no_row, has_row, row_of};
 use crate::shapes::count_at;
+use crate::subtrees::tree_in;
+use crate::table_tree::TableTree;
 use crate::trees::is_same_tree;
 use colour_tables::{Base, Kind};
+use sfnt_bytes::{Memory, NoMemory};
 use std::marker::Model;
 
 // Returns the BaseGlyph records.
@@ -227,6 +235,46 @@ fn is_same_layers(t: &[u8], u: &[u8], g: u16) -> bool
     is_same_of(t, u, base, other)
 }
 
+// Returns the layers of a glyph.
+fn layers_of(t: &[u8], g: u16) -> Option<GlyphLayers<'_>>
+    requires { (n : ℕ) × (has_layer_lists n t.now ≡ true) }
+    ensures { result ≡ layers_at t.now g }
+{
+    match base_of(t, g) {
+        Some(base) => Some(GlyphLayers::of(t, base)),
+        None => None,
+    }
+}
+
+// Returns the tree of a kind at a place, if there is one.
+fn tree_of(t: &[u8], n: u16, at: Option<usize>, kind: Kind) -> Option<TableTree<'_>>
+    requires { IfSome at (λ x. is_some (tree_in n t.now kind x) ≡ true) }
+    ensures { option_map tree_of result ≡ option_and_then (tree_in n t.now kind) at }
+{
+    match at {
+        Some(at) => Some(tree_in(t, n, at, kind)),
+        None => None,
+    }
+}
+
+// Returns the paint of a glyph.
+fn paint_of(t: &[u8], n: u16, g: u16) -> Option<TableTree<'_>>
+    requires { has_paint_lists n t.now ≡ true }
+    ensures { option_map tree_of result ≡ paint_at n t.now g }
+{
+    let at = paint_place(t, g);
+    tree_of(t, n, at, Kind::Paint)
+}
+
+// Returns the clip box of a glyph.
+fn box_of(t: &[u8], n: u16, g: u16) -> Option<TableTree<'_>>
+    requires { has_paint_lists n t.now ≡ true }
+    ensures { option_map tree_of result ≡ box_at n t.now g }
+{
+    let at = box_place(t, g);
+    tree_of(t, n, at, Kind::ClipBox)
+}
+
 /// A colour table of version 0 that is divided.
 #[derive(Drop)]
 pub struct LayerTable<'t> {
@@ -280,6 +328,43 @@ impl<'t> LayerTable<'t> {
         ensures other { IsFalse result → layers_at self.now.0 g ≡ layers_at other.now.0 g → ⊥ }
     {
         is_same_layers(self.bytes, other.bytes, g)
+    }
+    /// Returns its bytes.
+    pub fn bytes(&self) -> &'t [u8]
+        ensures { result.now ≡ self.now.0 }
+    {
+        self.bytes
+    }
+
+    /// Returns the number of glyphs.
+    pub fn count(&self) -> u16
+        ensures { result ≡ self.now.1 }
+    {
+        self.count
+    }
+
+    /// Returns the layers of a glyph.
+    #[tactic(auto, unfolding(colour_tables::specs::LayerLists::is_layer_table))]
+    pub fn layers(&self, g: u16) -> Option<GlyphLayers<'t>>
+        ensures { result ≡ layers_at self.now.0 g }
+    {
+        layers_of(self.bytes, g)
+    }
+
+    /// Puts the glyphs that the layers of a glyph name after others.
+    ///
+    /// # Errors
+    ///
+    /// `NoMemory` if out of memory.
+    pub fn add_names<A: Memory>(&self, g: u16, names: &mut Vec<u16, A>) -> Result<(), NoMemory>
+        ensures names { OnOk result
+            (names.new.items ≡ names.old.items ++ layer_names (layers_at self.now.0 g)) }
+        ensures memory { OnErr result (IsRefused A.refuses) }
+    {
+        match self.layers(g) {
+            Some(layers) => add_layers(&layers, names),
+            None => Ok(()),
+        }
     }
 }
 
@@ -349,5 +434,61 @@ impl<'t> PaintTable<'t> {
         let paint = is_same_paint(self.bytes, other.bytes, self.count, g);
         let clip = is_same_box(self.bytes, other.bytes, self.count, g);
         layers && paint && clip
+    }
+    /// Returns its bytes.
+    pub fn bytes(&self) -> &'t [u8]
+        ensures { result.now ≡ self.now.0 }
+    {
+        self.bytes
+    }
+
+    /// Returns the number of glyphs.
+    pub fn count(&self) -> u16
+        ensures { result ≡ self.now.1 }
+    {
+        self.count
+    }
+
+    /// Returns the layers of a glyph.
+    #[tactic(auto, unfolding(colour_tables::specs::PaintLists::is_paint_table))]
+    pub fn layers(&self, g: u16) -> Option<GlyphLayers<'t>>
+        ensures { result ≡ layers_at self.now.0 g }
+    {
+        layers_of(self.bytes, g)
+    }
+
+    /// Returns the paint of a glyph.
+    #[tactic(auto, unfolding(colour_tables::specs::PaintLists::is_paint_table))]
+    pub fn paint(&self, g: u16) -> Option<TableTree<'t>>
+        ensures { option_map tree_of result ≡ paint_at self.now.1 self.now.0 g }
+    {
+        paint_of(self.bytes, self.count, g)
+    }
+
+    /// Returns the clip box of a glyph.
+    #[tactic(auto, unfolding(colour_tables::specs::PaintLists::is_paint_table))]
+    pub fn clip_box(&self, g: u16) -> Option<TableTree<'t>>
+        ensures { option_map tree_of result ≡ box_at self.now.1 self.now.0 g }
+    {
+        box_of(self.bytes, self.count, g)
+    }
+
+    /// Puts the glyphs that the colours of a glyph name after others.
+    ///
+    /// # Errors
+    ///
+    /// `NoMemory` if out of memory.
+    pub fn add_names<A: Memory>(&self, g: u16, names: &mut Vec<u16, A>) -> Result<(), NoMemory>
+        ensures names { OnOk result
+            (names.new.items ≡ names.old.items ++ colour_names (colour_at self.now.1 self.now.0 g)) }
+        ensures memory { OnErr result (IsRefused A.refuses) }
+    {
+        if let Some(layers) = self.layers(g) {
+            add_layers(&layers, names)?;
+        }
+        match self.paint(g) {
+            Some(paint) => add_tree(&paint, Kind::Paint, names),
+            None => Ok(()),
+        }
     }
 }

@@ -10,11 +10,18 @@ use crate::shapes::{count_links, link_at, shape_at, size_of};
 use colour_tables::{Kind, Shape};
 
 /// How deep trees are nested at most.
-const DEPTH: u8 = 64;
+pub(crate) const DEPTH: u8 = 64;
 
-// Returns how many bytes are left of so many after those of a tree that is nested so deep at most, none where there is
-// no tree, or no room for it.
-fn room_after(t: &[u8], n: u16, at: usize, kind: Kind, depth: u8, room: u64) -> Option<u64>
+/// Returns how many bytes are left of so many after those of a tree that is nested so deep at most, none where there is
+/// no tree, or no room for it.
+pub(crate) fn room_after(
+    t: &[u8],
+    n: u16,
+    at: usize,
+    kind: Kind,
+    depth: u8,
+    room: u64,
+) -> Option<u64>
     ensures { result ≡ room_left tree_size room (tree_at n t.now (layer_places_of t.now) depth at kind) }
 {
     if depth == 0 {
