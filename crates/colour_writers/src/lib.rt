@@ -1,0 +1,10 @@
+//! Colour tables that are written of what two of them say.
+//! OpenType 1.9, COLR.
+#![tactic(auto)]
+
+mod layers;
+mod numbers;
+mod picked;
+mod sides;
+
+pub use crate::sides::{Side, Sides};
