@@ -1,2 +1,4 @@
 pub mod ListLemmas
 pub mod LayerLemmas
+pub mod WrittenLemmas
+pub mod TreeListLemmas

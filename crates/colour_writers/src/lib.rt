@@ -3,8 +3,10 @@
 #![tactic(auto)]
 
 mod layers;
+mod lists;
 mod numbers;
 mod picked;
 mod sides;
+mod trees;
 
 pub use crate::sides::{Side, Sides};

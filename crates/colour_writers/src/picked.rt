@@ -3,7 +3,7 @@ ghost use Rattle.std.specs.Prelude.{◌≡◌, ◌<◌, ℕ};
 ghost use Rattle.colour_writers.specs.Picked.{picked_layers};
 
 use crate::sides::{Side, Sides};
-use colour_readers::{GlyphLayers, LayerTable};
+use colour_readers::{GlyphLayers, LayerTable, TableTree};
 
 /// What says of each glyph which layers it has.
 pub(crate) trait Layered {
@@ -38,4 +38,19 @@ impl<'a, 't, S: Sides> Layered for PickedLayers<'a, 't, S> {
             Side::Neither => None,
         }
     }
+}
+
+/// What says of each glyph which tree it has: its paint, or its clip box.
+pub(crate) trait Planted {
+    ghost use Rattle.std.specs.Prelude.{◌≡◌, ℕ, Option};
+    ghost use Rattle.std.specs.Option.{option_map};
+    ghost use Rattle.colour_tables.specs.Paints.{Tree};
+    ghost use Rattle.colour_readers.specs.Subtrees.{tree_of};
+
+    /// The tree of each glyph.
+    ghost trees: { Self → ℕ → Option Tree };
+
+    /// Returns the tree of a glyph.
+    fn tree(&self, g: u16) -> Option<TableTree<'_>>
+        ensures { option_map tree_of result ≡ trees self.now g };
 }
