@@ -9,13 +9,17 @@ mod names;
 mod paint_lists;
 mod rows;
 mod shapes;
+mod stores;
 mod subtrees;
 mod table_tree;
 mod tables;
 mod trees;
+mod varies;
 
 pub use crate::glyph_layers::GlyphLayers;
 pub use crate::layer_lists::is_layer_table;
 pub use crate::paint_lists::is_paint_table;
+pub use crate::stores::what_varies;
 pub use crate::table_tree::TableTree;
 pub use crate::tables::{LayerTable, PaintTable};
+pub use crate::varies::Varies;
