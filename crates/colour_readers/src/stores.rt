@@ -5,7 +5,7 @@ ghost use Rattle.colour_tables.specs.Stores.{data_end, data_end_at, data_ends, d
 ghost use Rattle.colour_readers.specs.Varying.{store_by};
 
 use crate::fields::{byte_at, bytes_from, u16_at, u32_at};
-use crate::tables::PaintTable;
+use crate::open_colours::PaintTable;
 use crate::varies::Varies;
 
 // Returns how many bytes an entry of a map has.

@@ -2,7 +2,8 @@
 use Rattle.std.proofs.Common.{◌≡◌, ℕ, ◌+◌, ◌-◌, ◌<◌, ◌≤◌, List, [], ◌∷◌, ◌++◌, refl, sym, ap, ◌∙◌, arith, append_assoc}
 use Rattle.std.proofs.lemmas.List.{append-nil}
 use Rattle.colour_tables.specs.MadeLayers.{bytes_of_u32}
-use Rattle.colour_tables.specs.MadePaints.{first_size, forest_bytes, forest_count, forest_layers, forest_places, own_count}
+use Rattle.colour_tables.specs.MadePaints.{first_size, forest_bytes, forest_count, forest_layers, forest_places}
+use Rattle.colour_tables.specs.MadePaints.{own_count}
 use Rattle.colour_tables.specs.MadePaints.{own_places, place_rows, shape_bytes, starts}
 use Rattle.colour_tables.specs.PaintLists.{forest_size, tree_size}
 use Rattle.colour_tables.specs.Paints.{Bare, Forest, Tree, shape_size, with_tree}
@@ -76,7 +77,8 @@ pub places_put : (old new all : List ℕ) (list at next : ℕ) (tree : Tree) (be
     → old ++ place_rows list (forest_places at below) ≡ all → new ++ place_rows list (forest_places next rest) ≡ all
 places_put old new all list at next tree below rest e put n is =
     (λ i. put i ++ place_rows list (forest_places (n i) rest))
-    ∙ append_assoc old (place_rows list (tree_places at tree)) (place_rows list (forest_places (at + tree_size tree) rest))
+    ∙ append_assoc old (place_rows list (tree_places at tree))
+    (place_rows list (forest_places (at + tree_size tree) rest))
     ∙ ap (λ (b : List ℕ). old ++ b)
     (sym (rows_append list (tree_places at tree) (forest_places (at + tree_size tree) rest)))
     ∙ ap (λ (ps : List ℕ). old ++ place_rows list ps) (places_with at tree rest)

@@ -1,12 +1,13 @@
 -- Words of private contracts and of proofs: no public clause names them.
-use Rattle.std.specs.Prelude.{ℕ, ◌+◌, ◌-◌, ◌*◌, ◌++◌, List, [], flat_map, Option, None, Some}
+use Rattle.std.specs.Prelude.{◌≡◌, ℕ, ◌+◌, ◌-◌, ◌*◌, ◌++◌, List, [], flat_map, Option, None, Some}
 use Rattle.std.specs.Option.{option_map_or}
 use Rattle.colour_tables.specs.MadeLayers.{bytes_of_u16, bytes_of_u24, bytes_of_u32, layer_bytes, offset_of}
-use Rattle.colour_tables.specs.MadePaints.{first_size, forest_bytes, forest_layers, forest_places, own_count, own_places}
-use Rattle.colour_tables.specs.MadePaints.{shape_bytes}
+use Rattle.colour_tables.specs.MadePaints.{first_size, forest_bytes, forest_layers, forest_places, list_size}
+use Rattle.colour_tables.specs.MadePaints.{own_count, own_places, shape_bytes}
 use Rattle.colour_tables.specs.PaintLists.{tree_size}
 use Rattle.colour_tables.specs.Paints.{Tree, shape_size}
 use Rattle.colour_tables.specs.declared.layer.Layer.{Layer}
+use Rattle.colour_writers.specs.declared.places.Places.{Places}
 
 -- the Layer records of a glyph, if it has any
 abbrev pub layers_bytes : Option (List Layer) → List ℕ
@@ -60,3 +61,22 @@ root_bytes list g at o = option_map_or (λ tree. bytes_of_u16 g ++ bytes_of_u32 
 abbrev pub clip_bytes : ℕ → ℕ → ℕ → Option Tree → List ℕ
 clip_bytes list g at o =
     option_map_or (λ tree. bytes_of_u16 g ++ bytes_of_u16 g ++ bytes_of_u24 (at - list)) o []
+
+-- the places of lists, of so many glyphs with layers, layers, glyphs with paints, layers of these, bytes of these,
+-- glyphs with clip boxes, and bytes of these
+pub record ArePlaces (glyphs layer_count paint_count place_count paint_size box_count box_size : ℕ) (at : Places)
+    : Type 0 where
+  pub bases : at.bases ≡ 34 + (6 * glyphs + 4 * layer_count)
+  pub layers : at.layers ≡ at.bases + list_size 0 6 paint_count
+  pub paints : at.paints ≡ at.layers + list_size 0 4 place_count
+  pub clips : at.clips ≡ at.paints + paint_size
+  pub boxes : at.boxes ≡ at.clips + list_size 1 7 box_count
+  pub map : at.map ≡ at.boxes + box_size
+
+-- the header after numLayerRecords, of so many glyphs with paints, layers of these, and glyphs with clip boxes, and of
+-- a map and a store of so many bytes
+unfoldable pub paint_header_of : ℕ → ℕ → ℕ → ℕ → ℕ → Places → List ℕ
+paint_header_of paints layers boxes map store at =
+    bytes_of_u32 (offset_of paints at.bases) ++ bytes_of_u32 (offset_of layers at.layers)
+    ++ bytes_of_u32 (offset_of boxes at.clips) ++ bytes_of_u32 (offset_of map at.map)
+    ++ bytes_of_u32 (offset_of store (at.map + map))

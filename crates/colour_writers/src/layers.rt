@@ -7,7 +7,7 @@ ghost use Rattle.colour_tables.specs.MadeLayers.{base_rows, layer_bytes, layer_r
 ghost use Rattle.colour_writers.specs.Inside.{header_of, here, layers_bytes};
 ghost use Rattle.colour_tables.specs.declared.layer.Layer.{Layer as AnyLayer};
 
-use crate::numbers::{push_u16, push_u32};
+use crate::made_numbers::{push_u16, push_u32};
 use crate::picked::Layered;
 use colour_readers::GlyphLayers;
 use colour_tables::Layer;
@@ -188,8 +188,8 @@ pub(crate) fn layers_have_room<P: Layered>(picked: &P, n: u16) -> bool
     true
 }
 
-// Returns the offset of a list: 0 where it is empty.
-pub(crate) fn offset_or_none(count: u32, place: u32) -> u32
+/// Returns the offset of a list: 0 where it is empty.
+pub(crate) fn offset_or_none(count: usize, place: u32) -> u32
     ensures { result ≡ offset_of count place }
 {
     if count == 0 { 0 } else { place }
@@ -211,10 +211,13 @@ pub(crate) fn push_header<A: Memory>(
     let bases_place = u32::from(place);
     push_u16(made, version)?;
     push_u16(made, counts.glyphs)?;
-    push_u32(made, offset_or_none(bases, bases_place))?;
     push_u32(
         made,
-        offset_or_none(u32::from(counts.layers), bases_place + 6 * bases),
+        offset_or_none(usize::from(counts.glyphs), bases_place),
+    )?;
+    push_u32(
+        made,
+        offset_or_none(usize::from(counts.layers), bases_place + 6 * bases),
     )?;
     push_u16(made, counts.layers)
 }

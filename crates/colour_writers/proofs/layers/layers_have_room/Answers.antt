@@ -10,4 +10,5 @@ returns-in-None g c =
 pub returns : goal.returns
 returns g c =
     room_ends (g.P.Layered.said c.args.picked.now) c.loop-g.g c.args.n c.loop-g.left
-    (omega (arith, c.loop-g-test.false)) (omega (arith, c.loop-g.auto.g-end)) c.loop-g.invariant.each c.loop-g.invariant.room
+    (omega (arith, c.loop-g-test.false)) (omega (arith, c.loop-g.auto.g-end)) c.loop-g.invariant.each
+    c.loop-g.invariant.room

@@ -13,7 +13,8 @@ loop-g-preserved g c =
     let old = c.loop-g.made.items in
     rows_put old _ c.loop-g.g _ (listed x (c.loop-g.g + 1) (c.args.n - (c.loop-g.g + 1)))
     c.in_ok-push_layers_of.ensures.made
-    ∙ list_step (λ (es : List (ℕ × List Layer)). old ++ layer_rows es) x c.loop-g.g c.args.n _ _ (omega (arith, c.loop-g-test.true))
+    ∙ list_step (λ (es : List (ℕ × List Layer)). old ++ layer_rows es) x c.loop-g.g c.args.n _ _
+    (omega (arith, c.loop-g-test.true))
     c.layers.ensures c.loop-g.invariant
 
 pub returns-clause-made : goal.returns-clause-made
