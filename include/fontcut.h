@@ -150,6 +150,7 @@ typedef enum fontcut_status {
     FONTCUT_BAD_LAYOUT = 27,         /* GSUB cannot be read, which is asked where its links are followed alone */
     FONTCUT_BAD_VARIATIONS = 28,     /* gvar cannot be read, which is asked for variable cuts alone */
     FONTCUT_TABLE_TOO_LONG = 29,     /* the parts of both do not fit in a table; detail: the tag */
+    FONTCUT_BAD_COLOURS = 30,        /* COLR cannot be read, which is asked where its links are followed alone */
     /* End of what tools/write_refusals writes. */
     FONTCUT_SMALL_ROOM = 100,        /* the room is too small; size: what is needed */
     FONTCUT_UNKNOWN_KIND = 101,      /* the number is no fontcut_kind; detail: it */

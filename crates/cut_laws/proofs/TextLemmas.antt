@@ -116,6 +116,7 @@ font-short (fonts.Mapping error) names = map-short error
 font-short (fonts.BadGlyph g) names = words (codes "bad glyph ") _ refl (number-short g names)
 font-short fonts.BadLayout names = alone (font_error_text fonts.BadLayout) refl
 font-short fonts.BadVariations names = alone (font_error_text fonts.BadVariations) refl
+font-short fonts.BadColours names = alone (font_error_text fonts.BadColours) refl
 
 join-short : (error : JoinError) → NamesInJoin error → length (join_error_text error) ≤ 64
 join-short (joins.Font which error) names = font-short error names

@@ -25,10 +25,12 @@ pub enum FontError {
     BadLayout,
     /// Its `gvar` cannot be read. Only variable cuts refuse it.
     BadVariations,
+    /// Its `COLR` cannot be read. Only layout and variable cuts whose links of colours are followed refuse it.
+    BadColours,
 }
 
 impl FontError {
-    /// Returns the number of the refusal: that of the error that it holds, or 17, 27 or 28.
+    /// Returns the number of the refusal: that of the error that it holds, or 17, 27, 28 or 30.
     pub fn number(&self) -> u8
         ensures { result ≡ font_error_number self.now }
     {
@@ -39,6 +41,7 @@ impl FontError {
             FontError::BadGlyph(_) => numbers::BAD_GLYPH,
             FontError::BadLayout => numbers::BAD_LAYOUT,
             FontError::BadVariations => numbers::BAD_VARIATIONS,
+            FontError::BadColours => numbers::BAD_COLOURS,
         }
     }
 }
@@ -54,6 +57,7 @@ impl fmt::Display for FontError {
             FontError::BadGlyph(glyph) => write!(f, "bad glyph {glyph}"),
             FontError::BadLayout => f.write_str("bad layout"),
             FontError::BadVariations => f.write_str("bad variations"),
+            FontError::BadColours => f.write_str("bad colours"),
         }
     }
 }

@@ -72,6 +72,7 @@ font_argument (fonts.Mapping _) = 0
 font_argument (fonts.BadGlyph glyph) = glyph
 font_argument fonts.BadLayout = 0
 font_argument fonts.BadVariations = 0
+font_argument fonts.BadColours = 0
 
 -- End of what tools/write_refusals writes.
 

@@ -44,6 +44,7 @@ font_error_lines is detail =
     ∷ when (is 17 && nat_lt detail 0x10000) (fonts.BadGlyph detail)
     ∷ when (is 27) fonts.BadLayout
     ∷ when (is 28) fonts.BadVariations
+    ∷ when (is 30) fonts.BadColours
     ∷ []
     -- End of what tools/write_refusals writes.
 

@@ -35,6 +35,7 @@ fn font_error(number: u8, detail: u32) -> Option<FontError>
         numbers::BAD_GLYPH => u16::try_from(detail).ok().map(FontError::BadGlyph),
         numbers::BAD_LAYOUT => Some(FontError::BadLayout),
         numbers::BAD_VARIATIONS => Some(FontError::BadVariations),
+        numbers::BAD_COLOURS => Some(FontError::BadColours),
         // End of what tools/write_refusals writes.
         _ => None,
     }

@@ -137,6 +137,7 @@ fn argument_of(error: FontError) -> u32
         FontError::BadGlyph(glyph) => u32::from(glyph),
         FontError::BadLayout => 0,
         FontError::BadVariations => 0,
+        FontError::BadColours => 0,
         // End of what tools/write_refusals writes.
     }
 }

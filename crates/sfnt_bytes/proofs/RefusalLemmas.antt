@@ -1,13 +1,13 @@
 -- What is known of a file whose directory is not refused.
-use Rattle.std.proofs.Common.{◌≡◌, ℕ, ◌+◌, ◌-◌, ◌<◌, ◌≤◌, Bool, true, false, not, ◌&&◌, ltb, List, [], length, get_or}
+use Rattle.std.proofs.Common.{◌≡◌, ℕ, zero, suc, ◌+◌, ◌-◌, ◌<◌, ◌≤◌, Bool, true, false, not, ◌&&◌, ltb, List, [], length, get_or}
 use Rattle.std.proofs.Common.{find, Some, None, sym, ap, ◌∙◌, arith, refl}
 use Rattle.std.specs.Option.{option_map_or}
-use Rattle.std.proofs.lemmas.Bool.{le-ltb, lt-ltb, not-false, or_parts, ltb-false, leb-true}
+use Rattle.std.proofs.lemmas.Bool.{not-false, or_parts, ltb-false, leb-true}
 use Rattle.sfnt_bytes.specs.Directory.{HasRecords, table_entry, is_within, kept_tag, slot_tag}
 use Rattle.sfnt_bytes.specs.Refusals.{directory_lines, directory_fault, is_truetype, is_outside, is_duplicate}
 use Rattle.sfnt_bytes.specs.Refusals.{layout_directory_fault, tag_lines}
 use Rattle.sfnt_bytes.specs.declared.tag.Tag.{Tag}
-use Rattle.sfnt_bytes.specs.declared.tag.TheConstants.{FIRST_VARIATION, KEPT, LAYOUT, SLOTS}
+use Rattle.sfnt_bytes.specs.declared.tag.TheConstants.{FIRST_VARIATION, KEPT, LAYOUT_AND_COLOURS, SLOTS}
 use Rattle.sfnt_bytes.specs.declared.records.Entry.{Entry}
 use Rattle.sfnt_bytes.specs.declared.directory.DirError.TheVariants.{FileTooLarge, Truncated, NotTrueType}
 use Rattle.sfnt_bytes.specs.declared.directory.DirError.TheVariants.{DuplicateTable, TableOutOfFile}
@@ -62,25 +62,31 @@ pub tags_single : (tags : List Tag) (file : List ℕ) → first_of_lines (tag_li
 tags_single tags file no_fault =
     option_map-none DuplicateTable _ (first_of_lines-none_at (tag_lines tags file) 0 no_fault)
 
--- so none of layout
-pub layout_inside : (file : List ℕ) → layout_directory_fault file ≡ None → find (is_outside file) LAYOUT ≡ None
-unfolding layout_directory_fault
-layout_inside file no_fault = tags_inside LAYOUT file no_fault
+-- so none of the tables that layout cuts keep
+module _ (file : List ℕ) (no_fault : layout_directory_fault file ≡ None) where
+  layout_inside : (place : ℕ) → place < 7
+      → is_outside file (get_or LAYOUT_AND_COLOURS place (record { 0 = [] })) ≡ false
+  unfolding layout_directory_fault
+  layout_inside place low =
+      find-none_at (is_outside file) LAYOUT_AND_COLOURS place (record { 0 = [] })
+      (tags_inside LAYOUT_AND_COLOURS file no_fault) low
 
-pub layout_slot_tag : (slot : ℕ) → SLOTS ≤ slot → slot < FIRST_VARIATION
-    → get_or LAYOUT (slot - SLOTS) (record { 0 = [] }) ≡ slot_tag slot
-unfolding slot_tag
-layout_slot_tag slot from to =
-    let past = le-ltb slot SLOTS from in
-    let low = lt-ltb slot FIRST_VARIATION to in
-    rw (past, low) refl
+  layout_by_slot : (k : ℕ) → k < 7 → is_outside file (slot_tag (k + 16)) ≡ false
+  unfolding slot_tag
+  layout_by_slot zero low = layout_inside 0 (omega arith)
+  layout_by_slot (suc zero) low = layout_inside 3 (omega arith)
+  layout_by_slot (suc (suc zero)) low = layout_inside 4 (omega arith)
+  layout_by_slot (suc (suc (suc zero))) low = layout_inside 5 (omega arith)
+  layout_by_slot (suc (suc (suc (suc zero)))) low = layout_inside 6 (omega arith)
+  layout_by_slot (suc (suc (suc (suc (suc zero))))) low = layout_inside 1 (omega arith)
+  layout_by_slot (suc (suc (suc (suc (suc (suc zero)))))) low = layout_inside 2 (omega arith)
+  layout_by_slot (suc (suc (suc (suc (suc (suc (suc k))))))) low = absurd (omega (arith, low))
 
-pub layout_not_outside : (file : List ℕ) (slot : ℕ) → layout_directory_fault file ≡ None → SLOTS ≤ slot
-    → slot < FIRST_VARIATION → is_outside file (slot_tag slot) ≡ false
-layout_not_outside file slot no_fault from to =
-    ap (is_outside file) (sym (layout_slot_tag slot from to))
-    ∙ find-none_at (is_outside file) LAYOUT (slot - SLOTS) (record { 0 = [] }) (layout_inside file no_fault)
-    (omega (arith, from, to))
+  pub layout_not_outside : (slot : ℕ) → SLOTS ≤ slot → slot < FIRST_VARIATION
+      → is_outside file (slot_tag slot) ≡ false
+  layout_not_outside slot from to =
+      let e : slot - 16 + 16 ≡ slot = omega (arith, from) in
+      ap (λ (s : ℕ). is_outside file (slot_tag s)) (sym e) ∙ layout_by_slot (slot - 16) (omega (arith, from, to))
 
 -- the table of a tag that is not outside lies within the file
 pub table_is_within : (file : List ℕ) (tag : Tag) (entry : Entry) → is_outside file tag ≡ false

@@ -7,8 +7,8 @@ use Rattle.sfnt_bytes.specs.Number.{u16_at, u32_at}
 use Rattle.sfnt_bytes.specs.Tag.{is_kept_tag, same_tag}
 use Rattle.sfnt_bytes.specs.declared.records.Entry.{Entry}
 use Rattle.sfnt_bytes.specs.declared.tag.Tag.{Tag}
-use Rattle.sfnt_bytes.specs.declared.tag.TheConstants.{ALL_SLOTS, FIRST_VARIATION, IN_ORDER, KEPT, LAYOUT}
-use Rattle.sfnt_bytes.specs.declared.tag.TheConstants.{SLOTS, VARIATIONS}
+use Rattle.sfnt_bytes.specs.declared.tag.TheConstants.{ALL_SLOTS, COLOURS, FIRST_COLOUR, FIRST_VARIATION, IN_ORDER}
+use Rattle.sfnt_bytes.specs.declared.tag.TheConstants.{KEPT, LAYOUT, SLOTS, VARIATIONS}
 
 -- numTables
 abbrev pub table_count : List ℕ → ℕ
@@ -70,13 +70,14 @@ kept_tag slot = slice_index_or KEPT slot (record { 0 = [] })
 
 -- the slot of a table of layout
 abbrev pub is_layout_slot : ℕ → Bool
-is_layout_slot slot = nat_le SLOTS slot && nat_lt slot FIRST_VARIATION
+is_layout_slot slot = nat_le SLOTS slot && nat_lt slot FIRST_COLOUR
 
 -- the tag of a slot of any cut
 unfoldable pub slot_tag : ℕ → Tag
 slot_tag slot =
     if nat_lt slot SLOTS then kept_tag slot
-    else if nat_lt slot FIRST_VARIATION then slice_index_or LAYOUT (slot - SLOTS) (record { 0 = [] })
+    else if nat_lt slot FIRST_COLOUR then slice_index_or LAYOUT (slot - SLOTS) (record { 0 = [] })
+    else if nat_lt slot FIRST_VARIATION then slice_index_or COLOURS (slot - FIRST_COLOUR) (record { 0 = [] })
     else slice_index_or VARIATIONS (slot - FIRST_VARIATION) (record { 0 = [] })
 
 -- the slot of the table at a place

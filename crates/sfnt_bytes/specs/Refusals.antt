@@ -6,7 +6,7 @@ use Rattle.sfnt_bytes.specs.Number.{u32_at}
 use Rattle.sfnt_bytes.specs.Lines.{when, first_of_lines}
 use Rattle.sfnt_bytes.specs.Directory.{table_count, has_tag, is_within, records_of, table_entry}
 use Rattle.sfnt_bytes.specs.declared.tag.Tag.{Tag}
-use Rattle.sfnt_bytes.specs.declared.tag.TheConstants.{KEPT, LAYOUT, LAYOUT_AND_VARIATIONS}
+use Rattle.sfnt_bytes.specs.declared.tag.TheConstants.{KEPT, LAYOUT_AND_COLOURS, OTHERS}
 use Rattle.sfnt_bytes.specs.declared.directory.DirError.{DirError}
 use Rattle.sfnt_bytes.specs.declared.directory.DirError.TheVariants.{FileTooLarge, Truncated, Collection, NotTrueType}
 use Rattle.sfnt_bytes.specs.declared.directory.DirError.TheVariants.{DuplicateTable, TableOutOfFile}
@@ -51,10 +51,10 @@ tag_lines tags file =
     ∷ option_map TableOutOfFile (find (is_outside file) tags)
     ∷ []
 
--- the first refusal of the tables of layout that applies
+-- the first refusal of the tables of layout and of colours that applies
 unfoldable pub layout_directory_fault : List ℕ → Option DirError
-layout_directory_fault file = first_of_lines (tag_lines LAYOUT file)
+layout_directory_fault file = first_of_lines (tag_lines LAYOUT_AND_COLOURS file)
 
--- the first refusal of the tables of layout and of variations that applies
+-- the first refusal of the tables of layout, of colours and of variations that applies
 unfoldable pub variable_directory_fault : List ℕ → Option DirError
-variable_directory_fault file = first_of_lines (tag_lines LAYOUT_AND_VARIATIONS file)
+variable_directory_fault file = first_of_lines (tag_lines OTHERS file)

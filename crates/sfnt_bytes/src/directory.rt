@@ -14,7 +14,7 @@ use crate::number::{be16, be32};
 use crate::records::{
     Dropped, HEADER, RECORD, Records, count_of, dropped_in, find_entry, records_in,
 };
-use crate::tag::{KEPT, LAYOUT, LAYOUT_AND_VARIATIONS, Tag, tag_of};
+use crate::tag::{KEPT, LAYOUT_AND_COLOURS, OTHERS, Tag, tag_of};
 use std::marker::Model;
 
 /// The most bytes that a file may have, to be read or to be written.
@@ -217,30 +217,30 @@ impl<'a> Directory<'a> {
         Ok(())
     }
 
-    /// Tells whether each table of layout stands once at most and lies within the file.
+    /// Tells whether each table of layout and of colours stands once at most and lies within the file.
     ///
     /// # Errors
     ///
-    /// `DuplicateTable` or `TableOutOfFile` of a tag of [`LAYOUT`], the first that applies.
+    /// `DuplicateTable` or `TableOutOfFile` of a tag of [`LAYOUT_AND_COLOURS`], the first that applies.
     #[tactic(auto, unfolding(crate::specs::Refusals::layout_directory_fault))]
     pub fn check_layout(&self) -> Result<(), DirError>
         ensures { MatchResult result (λ _. layout_directory_fault self.now ≡ None)
             (λ error. layout_directory_fault self.now ≡ Some error) }
     {
-        self.check_tags(&LAYOUT)
+        self.check_tags(&LAYOUT_AND_COLOURS)
     }
 
-    /// Tells whether each table of layout and of variations stands once at most and lies within the file.
+    /// Tells whether each table of layout, of colours and of variations stands once at most and lies within the file.
     ///
     /// # Errors
     ///
-    /// `DuplicateTable` or `TableOutOfFile` of a tag of [`LAYOUT_AND_VARIATIONS`], the first that applies.
+    /// `DuplicateTable` or `TableOutOfFile` of a tag of [`OTHERS`], the first that applies.
     #[tactic(auto, unfolding(crate::specs::Refusals::variable_directory_fault))]
     pub fn check_variable(&self) -> Result<(), DirError>
         ensures { MatchResult result (λ _. variable_directory_fault self.now ≡ None)
             (λ error. variable_directory_fault self.now ≡ Some error) }
     {
-        self.check_tags(&LAYOUT_AND_VARIATIONS)
+        self.check_tags(&OTHERS)
     }
 
     /// Returns the table of a slot, whose tag [`tag_of`] gives, without its padding, or none if there is no such table. Of

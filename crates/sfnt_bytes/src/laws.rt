@@ -4,8 +4,8 @@ ghost use Rattle.std.specs.Prelude.{◌≡◌, [], ◌∷◌, codes, map};
 ghost use Rattle.sfnt_bytes.specs.Directory.{slot_tag};
 ghost use Rattle.sfnt_bytes.specs.Sums.{SumOfParts};
 ghost use Rattle.sfnt_bytes.specs.declared.directory.TheConstants.{MAX_FILE};
-ghost use Rattle.sfnt_bytes.specs.declared.numbers.TheConstants.{BAD_CMAP, BAD_GLYPH, BAD_HEAD, BAD_HHEA, BAD_HMTX, BAD_LAYOUT, BAD_LOCA, BAD_MAXP, BAD_RANGE, BAD_VARIATIONS, BAD_WORD, COLLECTION, DIFFERENT_GLYPH, DIFFERENT_MAPPING, DIFFERENT_TABLE, DUPLICATE_TABLE, FILE_TOO_LARGE, MISSING_TABLE, NOTHING_TO_JOIN, NOT_A_CUT, NOT_TRUETYPE, NO_MAPPING, NO_MEMORY, READ_FAULT, TABLE_OUT_OF_FILE, TABLE_TOO_LONG, TOO_LARGE, TRUNCATED, WRITE_FAULT};
-ghost use Rattle.sfnt_bytes.specs.declared.tag.TheConstants.{ALL_SLOTS, CMAP, FIRST_VARIATION, GLYF, HEAD, HEAD_TAG, HHEA, HMTX, IN_ORDER, LAYOUT, LAYOUT_AND_VARIATIONS, LOCA, MAXP, POST, SLOTS, VHEA, VMTX};
+ghost use Rattle.sfnt_bytes.specs.declared.numbers.TheConstants.{BAD_CMAP, BAD_COLOURS, BAD_GLYPH, BAD_HEAD, BAD_HHEA, BAD_HMTX, BAD_LAYOUT, BAD_LOCA, BAD_MAXP, BAD_RANGE, BAD_VARIATIONS, BAD_WORD, COLLECTION, DIFFERENT_GLYPH, DIFFERENT_MAPPING, DIFFERENT_TABLE, DUPLICATE_TABLE, FILE_TOO_LARGE, MISSING_TABLE, NOTHING_TO_JOIN, NOT_A_CUT, NOT_TRUETYPE, NO_MAPPING, NO_MEMORY, READ_FAULT, TABLE_OUT_OF_FILE, TABLE_TOO_LONG, TOO_LARGE, TRUNCATED, WRITE_FAULT};
+ghost use Rattle.sfnt_bytes.specs.declared.tag.TheConstants.{ALL_SLOTS, CMAP, COLOURS, FIRST_COLOUR, FIRST_VARIATION, GLYF, HEAD, HEAD_TAG, HHEA, HMTX, IN_ORDER, LAYOUT, LAYOUT_AND_COLOURS, LOCA, MAXP, OTHERS, POST, SLOTS, VHEA, VMTX};
 
 /// The checksum of bytes whose length is a multiple of 4, followed by others, is the sum modulo 2^32 of
 /// the checksums of both. So a file can be summed table by table, each table padded, while it is sent.
@@ -26,21 +26,25 @@ pub fn kept_slots_are()
         × ((slot_tag VHEA).0 ≡ codes "vhea") × ((slot_tag VMTX).0 ≡ codes "vmtx") }
 {}
 
-/// The tables of layout and of variations, whose records are looked at for cuts that keep them, are these; the table
-/// whose checksum leaves a field out is `head`.
+/// The tables of layout, of colours and of variations, whose records are looked at for cuts that keep them, are these;
+/// the table whose checksum leaves a field out is `head`.
 pub fn other_tags_are()
     ensures { (map (λ tag. tag.0) LAYOUT ≡ codes "BASE" ∷ codes "GDEF" ∷ codes "GPOS" ∷ codes "GSUB"
         ∷ codes "kern" ∷ [])
-        × (map (λ tag. tag.0) LAYOUT_AND_VARIATIONS ≡ codes "BASE" ∷ codes "GDEF" ∷ codes "GPOS" ∷ codes "GSUB"
+        × (map (λ tag. tag.0) COLOURS ≡ codes "COLR" ∷ codes "CPAL" ∷ [])
+        × (map (λ tag. tag.0) LAYOUT_AND_COLOURS ≡ codes "BASE" ∷ codes "COLR" ∷ codes "CPAL" ∷ codes "GDEF"
+        ∷ codes "GPOS" ∷ codes "GSUB" ∷ codes "kern" ∷ [])
+        × (map (λ tag. tag.0) OTHERS ≡ codes "BASE" ∷ codes "COLR" ∷ codes "CPAL" ∷ codes "GDEF" ∷ codes "GPOS" ∷ codes "GSUB"
         ∷ codes "HVAR" ∷ codes "MVAR" ∷ codes "STAT" ∷ codes "VVAR" ∷ codes "avar"
         ∷ codes "cvar" ∷ codes "fvar" ∷ codes "gvar" ∷ codes "kern" ∷ []) × (HEAD_TAG.0 ≡ codes "head") }
 {}
 
-/// The tables of a cut stand in the order of `IN_ORDER`, which is ascending by tag; those of variations have the slots
-/// from 21 on.
+/// The tables of a cut stand in the order of `IN_ORDER`, which is ascending by tag; those of colours have the slots from 21
+/// on, and those of variations from 23 on.
 pub fn slots_in_order_are()
-    ensures { (ALL_SLOTS ≡ 29) × (FIRST_VARIATION ≡ 21)
-        × (map (λ slot. (slot_tag slot).0) IN_ORDER ≡ codes "BASE" ∷ codes "GDEF" ∷ codes "GPOS" ∷ codes "GSUB"
+    ensures { (ALL_SLOTS ≡ 31) × (FIRST_COLOUR ≡ 21) × (FIRST_VARIATION ≡ 23)
+        × (map (λ slot. (slot_tag slot).0) IN_ORDER ≡ codes "BASE" ∷ codes "COLR" ∷ codes "CPAL" ∷ codes "GDEF"
+        ∷ codes "GPOS" ∷ codes "GSUB"
         ∷ codes "HVAR" ∷ codes "MVAR" ∷ codes "OS/2" ∷ codes "STAT" ∷ codes "VVAR" ∷ codes "avar"
         ∷ codes "cmap" ∷ codes "cvar" ∷ codes "cvt " ∷ codes "fpgm" ∷ codes "fvar" ∷ codes "gasp"
         ∷ codes "glyf" ∷ codes "gvar" ∷ codes "head" ∷ codes "hhea" ∷ codes "hmtx" ∷ codes "kern"
@@ -62,5 +66,5 @@ pub fn refusal_numbers_are()
         × (BAD_GLYPH ≡ 17) × (TOO_LARGE ≡ 18) × (WRITE_FAULT ≡ 19) × (NOT_A_CUT ≡ 20)
         × (DIFFERENT_TABLE ≡ 21) × (DIFFERENT_MAPPING ≡ 22) × (DIFFERENT_GLYPH ≡ 23) × (NOTHING_TO_JOIN ≡ 24)
         × (READ_FAULT ≡ 25) × (BAD_WORD ≡ 26) × (BAD_LAYOUT ≡ 27) × (BAD_VARIATIONS ≡ 28)
-        × (TABLE_TOO_LONG ≡ 29) }
+        × (TABLE_TOO_LONG ≡ 29) × (BAD_COLOURS ≡ 30) }
 {}

@@ -89,4 +89,7 @@ pub const BAD_VARIATIONS: u8 = 28;
 /// `table too long TAG`: the parts of both do not fit in a table.
 pub const TABLE_TOO_LONG: u8 = 29;
 
+/// `bad colours`: COLR cannot be read, which is asked where its links are followed alone.
+pub const BAD_COLOURS: u8 = 30;
+
 // End of what tools/write_refusals writes.

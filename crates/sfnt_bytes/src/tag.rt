@@ -15,8 +15,8 @@ pub struct Tag(pub [u8; 4]);
 /// How many slots there are for the tables of [`KEPT`].
 pub const SLOTS: usize = 16;
 
-/// The tables that every cut keeps, ascending by tag. A *slot* is an index into this list or, after it, into [`LAYOUT`]
-/// and then [`VARIATIONS`].
+/// The tables that every cut keeps, ascending by tag. A *slot* is an index into this list or, after it, into [`LAYOUT`],
+/// then [`COLOURS`], and then [`VARIATIONS`].
 pub const KEPT: [Tag; SLOTS] = [
     Tag(*b"OS/2"),
     Tag(*b"cmap"),
@@ -49,11 +49,29 @@ pub const LAYOUT: [Tag; LAYOUT_SLOTS] = [
     Tag(*b"kern"),
 ];
 
+/// How many tables of colours there are.
+pub const COLOUR_SLOTS: usize = 2;
+
+/// The tables of colours, ascending by tag: layout and variable cuts keep them too. Their slots come after those of
+/// [`LAYOUT`].
+pub const COLOURS: [Tag; COLOUR_SLOTS] = [Tag(*b"COLR"), Tag(*b"CPAL")];
+
+/// The tables of layout and of colours, ascending by tag.
+pub const LAYOUT_AND_COLOURS: [Tag; LAYOUT_SLOTS + COLOUR_SLOTS] = [
+    Tag(*b"BASE"),
+    Tag(*b"COLR"),
+    Tag(*b"CPAL"),
+    Tag(*b"GDEF"),
+    Tag(*b"GPOS"),
+    Tag(*b"GSUB"),
+    Tag(*b"kern"),
+];
+
 /// How many tables of variations there are.
 pub const VARIATION_SLOTS: usize = 8;
 
 /// The tables of variations, ascending by tag: variable cuts keep them too. Their slots come after those of
-/// [`LAYOUT`].
+/// [`COLOURS`].
 pub const VARIATIONS: [Tag; VARIATION_SLOTS] = [
     Tag(*b"HVAR"),
     Tag(*b"MVAR"),
@@ -65,9 +83,11 @@ pub const VARIATIONS: [Tag; VARIATION_SLOTS] = [
     Tag(*b"gvar"),
 ];
 
-/// The tables of layout and of variations, ascending by tag.
-pub const LAYOUT_AND_VARIATIONS: [Tag; LAYOUT_SLOTS + VARIATION_SLOTS] = [
+/// The tables of layout, of colours and of variations, ascending by tag.
+pub const OTHERS: [Tag; LAYOUT_SLOTS + COLOUR_SLOTS + VARIATION_SLOTS] = [
     Tag(*b"BASE"),
+    Tag(*b"COLR"),
+    Tag(*b"CPAL"),
     Tag(*b"GDEF"),
     Tag(*b"GPOS"),
     Tag(*b"GSUB"),
@@ -82,16 +102,19 @@ pub const LAYOUT_AND_VARIATIONS: [Tag; LAYOUT_SLOTS + VARIATION_SLOTS] = [
     Tag(*b"kern"),
 ];
 
-/// The slot after the last one of [`LAYOUT`]: the first of [`VARIATIONS`].
-pub const FIRST_VARIATION: usize = 21;
+/// The slot after the last one of [`LAYOUT`]: the first of [`COLOURS`].
+pub const FIRST_COLOUR: usize = 21;
+
+/// The slot after the last one of [`COLOURS`]: the first of [`VARIATIONS`].
+pub const FIRST_VARIATION: usize = 23;
 
 /// How many slots there are for the tables of any cut.
-pub const ALL_SLOTS: usize = 29;
+pub const ALL_SLOTS: usize = 31;
 
 /// All slots, ascending by tag. A *place* is one in this list: the tables of a cut stand in this order.
 pub const IN_ORDER: [usize; ALL_SLOTS] = [
-    16, 17, 18, 19, 21, 22, 0, 23, 24, 25, 1, 26, 2, 3, 27, 4, 5, 28, 6, 7, 8, 20, 9, 10, 11, 12,
-    13, 14, 15,
+    16, 21, 22, 17, 18, 19, 23, 24, 0, 25, 26, 27, 1, 28, 2, 3, 29, 4, 5, 30, 6, 7, 8, 20, 9, 10,
+    11, 12, 13, 14, 15,
 ];
 
 /// The slot of `BASE`.
@@ -109,11 +132,17 @@ pub const GSUB: usize = 19;
 /// The slot of `kern`.
 pub const KERN: usize = 20;
 
+/// The slot of `COLR`.
+pub const COLR: usize = 21;
+
+/// The slot of `CPAL`.
+pub const CPAL: usize = 22;
+
 /// The slot of `fvar`.
-pub const FVAR: usize = 27;
+pub const FVAR: usize = 29;
 
 /// The slot of `gvar`.
-pub const GVAR: usize = 28;
+pub const GVAR: usize = 30;
 
 /// The slot of `cmap`.
 pub const CMAP: usize = 1;
@@ -166,8 +195,11 @@ pub fn tag_of(slot: usize) -> Tag
     if slot < SLOTS {
         return KEPT[slot];
     }
-    if slot < FIRST_VARIATION {
+    if slot < FIRST_COLOUR {
         return LAYOUT[slot - SLOTS];
+    }
+    if slot < FIRST_VARIATION {
+        return COLOURS[slot - FIRST_COLOUR];
     }
     VARIATIONS[slot - FIRST_VARIATION]
 }
