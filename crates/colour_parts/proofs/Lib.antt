@@ -1,10 +1,5 @@
-pub mod ColourTableLemmas
-pub mod LayerTableLemmas
 pub mod NameLemmas
-pub mod PaintTableLemmas
-pub mod SideLemmas
 pub mod StillLemmas
 pub mod TellingLemmas
-pub mod WayLemmas
 pub mod WholeByteLemmas
 pub mod WorkedLemmas

@@ -13,8 +13,8 @@ use Rattle.colour_tables.specs.declared.shape.Kind.TheVariants.{Paint}
 use Rattle.colour_tables.proofs.GlyphLemmas.{below-append, each-at}
 use Rattle.colour_tables.proofs.LinkLemmas.{layer-glyphs, tree-glyphs}
 use Rattle.colour_parts.specs.Telling.{NamesAreGlyphs}
-use Rattle.colour_parts.proofs.LayerTableLemmas.{room_read}
-use Rattle.colour_parts.proofs.PaintTableLemmas.{colour-read, colours_read}
+use Rattle.font_theory.proofs.LayerTableLemmas.{room_read}
+use Rattle.font_theory.proofs.PaintTableLemmas.{colour-read, colours_read}
 
 layers-named : (n : ℕ) (layers : ℕ → Option (List Layer)) (g : ℕ) → layers_have_room n layers ≡ true → g < n
     → AreBelow n (layer_names (layers g))

@@ -6,14 +6,15 @@ use Rattle.colour_tables.specs.MadePaints.{paint_table}
 use Rattle.colour_tables.specs.Stores.{no_store, store_of}
 use Rattle.font_theory.specs.Content.{glyph_count}
 use Rattle.font_theory.specs.Parting.{Tables}
-use Rattle.colour_parts.specs.ColourTables.{colours, either_parting, varying_colours}
-use Rattle.colour_parts.specs.LayerTables.{is_layer_table}
-use Rattle.colour_parts.specs.PaintTables.{is_paint_table, no_colour, paint_way, still_way, varying_way}
+use Rattle.font_theory.specs.ColourTables.{colours, either_parting, varying_colours}
+use Rattle.colour_tables.specs.LayerLists.{is_layer_table}
+use Rattle.colour_tables.specs.PaintLists.{is_paint_table, no_colour}
+use Rattle.font_theory.specs.PaintTables.{paint_way, still_way, varying_way}
 use Rattle.colour_parts.specs.Telling.{StillOfVarying}
-use Rattle.colour_parts.specs.Ways.{parting_by}
-use Rattle.colour_parts.proofs.ColourTableLemmas.{colour_tables_are, one_version}
-use Rattle.colour_parts.proofs.PaintTableLemmas.{IsSaid, varying_way_is}
-use Rattle.colour_parts.proofs.WayLemmas.{frame-is_divided, whole-is_divided}
+use Rattle.font_theory.specs.Ways.{parting_by}
+use Rattle.font_theory.proofs.ColourTableLemmas.{colour_tables_are, one_version, same-fits, same-part}
+use Rattle.font_theory.proofs.PaintTableLemmas.{IsSaid, varying_way_is}
+use Rattle.font_theory.proofs.WayLemmas.{frame-is_divided, whole-is_divided}
 
 -- the frame of a table of version 1 without what varies
 paint-framed : (c : Tables) (u : List ℕ) → is_paint_table (glyph_count c) u ≡ true
@@ -75,14 +76,6 @@ varying-whole c t parts fit =
     by_version c t _
     (λ is. whole-is_divided (paint_way store_of) IsStored IsSaid varying_way_is (glyph_count c) t parts fit ∙ is)
     (λ no_it. cond-false (is_paint_table (glyph_count c) t) _ _ no_it)
-
-same-part : (c : Tables) (t : List ℕ) (g : ℕ) → colours.part c t g ≡ varying_colours.part c t g
-unfolding colours varying_colours either_parting parting_by still_way varying_way
-same-part c t g = refl
-
-same-fits : (c : Tables) (t : List ℕ) (parts : ℕ → List ℕ) → colours.fits c t parts ≡ varying_colours.fits c t parts
-unfolding colours varying_colours either_parting parting_by still_way varying_way
-same-fits c t parts = refl
 
 pub still_of_varying : StillOfVarying
 still_of_varying c t = record {

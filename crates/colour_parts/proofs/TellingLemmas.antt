@@ -1,19 +1,19 @@
 -- What frames and parts of colour tables tell.
 use Rattle.std.proofs.Common.{◌≡◌, ℕ, Bool, true, false, cond, List, [], refl, ap, ◌∙◌}
-use Rattle.colour_parts.specs.Ways.{Way}
+use Rattle.font_theory.specs.Ways.{CutSays, Way}
 use Rattle.font_theory.specs.Parting.{Parting}
 use Rattle.colour_tables.specs.NamedGlyphs.{colour_names, layer_names}
 use Rattle.font_theory.specs.Content.{glyph_count}
 use Rattle.colour_tables.specs.Laws.{IsStored}
-use Rattle.colour_parts.specs.LayerTables.{layer_way}
-use Rattle.colour_parts.specs.Laws.{DividesColours}
-use Rattle.colour_parts.specs.PaintTables.{still_way, varying_way}
-use Rattle.colour_parts.specs.Telling.{CutSays, CutsSay, NamesOnCut, NamesOnCuts, PartsFit, PartsOfOneTableFit}
+use Rattle.font_theory.specs.LayerTables.{layer_way}
+use Rattle.font_theory.specs.ColourTables.{DividesColours}
+use Rattle.font_theory.specs.PaintTables.{still_way, varying_way}
+use Rattle.colour_parts.specs.Telling.{CutsSay, NamesOnCut, NamesOnCuts, PartsFit, PartsOfOneTableFit}
 use Rattle.colour_parts.specs.Telling.{PartsTell, WholesAreMade}
-use Rattle.colour_parts.proofs.ColourTableLemmas.{colour_tables_are}
-use Rattle.colour_parts.proofs.LayerTableLemmas.{layer_way_is}
-use Rattle.colour_parts.proofs.PaintTableLemmas.{IsNone, IsSaid, still_way_is, varying_way_is}
-use Rattle.colour_parts.proofs.WayLemmas.{cut_says, makes_of, part_tells}
+use Rattle.font_theory.proofs.ColourTableLemmas.{colour_tables_are}
+use Rattle.font_theory.proofs.LayerTableLemmas.{layer_way_is}
+use Rattle.font_theory.proofs.PaintTableLemmas.{IsNone, IsSaid, still_way_is, varying_way_is}
+use Rattle.font_theory.proofs.WayLemmas.{cut_says, makes_of, part_tells}
 
 -- parts of one table
 parts_fit : (D : Parting) → DividesColours D → PartsFit D

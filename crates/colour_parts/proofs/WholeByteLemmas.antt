@@ -10,11 +10,13 @@ use Rattle.colour_tables.specs.Stores.{Store, no_store, store_of}
 use Rattle.colour_tables.specs.declared.layer.Layer.{Layer}
 use Rattle.colour_tables.proofs.TableByteLemmas.{no_layers-of_bytes, none-of_bytes, store-bytes, written_bytes}
 use Rattle.font_theory.specs.Content.{glyph_count}
-use Rattle.colour_parts.specs.ColourTables.{colours, either_parting, varying_colours}
-use Rattle.colour_parts.specs.LayerTables.{is_layer_table, layer_way}
-use Rattle.colour_parts.specs.PaintTables.{is_paint_table, no_colour, still_way, varying_way}
+use Rattle.font_theory.specs.ColourTables.{colours, either_parting, varying_colours}
+use Rattle.colour_tables.specs.LayerLists.{is_layer_table}
+use Rattle.font_theory.specs.LayerTables.{layer_way}
+use Rattle.colour_tables.specs.PaintLists.{is_paint_table, no_colour}
+use Rattle.font_theory.specs.PaintTables.{still_way, varying_way}
 use Rattle.colour_parts.specs.Telling.{WholeIsBytes, WholesAreBytes}
-use Rattle.colour_parts.specs.Ways.{parting_by}
+use Rattle.font_theory.specs.Ways.{parting_by}
 
 -- what is said by parts of bytes
 module _ (n : ℕ) (parts : ℕ → List ℕ) (bytes : (g : ℕ) → AreBelow 256 (parts g)) where

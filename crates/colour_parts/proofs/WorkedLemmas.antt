@@ -12,10 +12,12 @@ use Rattle.colour_tables.specs.PaintLists.{Colour, MAX_BYTES, base_list_offset, 
 use Rattle.colour_tables.specs.PaintLists.{colours_have_room, has_paint_lists, layer_list_offset, layer_places_of}
 use Rattle.colour_tables.specs.PaintLists.{paint_at, roots_of, tree_in}
 use Rattle.colour_tables.specs.Paints.{MAX_DEPTH, u24_at}
-use Rattle.colour_parts.specs.ColourTables.{colours, either_parting, varying_colours}
-use Rattle.colour_parts.specs.LayerTables.{is_layer_table, layer_way}
-use Rattle.colour_parts.specs.PaintTables.{is_paint_table, still_way, varying_way}
-use Rattle.colour_parts.specs.Ways.{Way, alone, parting_by, said_by}
+use Rattle.font_theory.specs.ColourTables.{colours, either_parting, varying_colours}
+use Rattle.colour_tables.specs.LayerLists.{is_layer_table}
+use Rattle.font_theory.specs.LayerTables.{layer_way}
+use Rattle.colour_tables.specs.PaintLists.{is_paint_table}
+use Rattle.font_theory.specs.PaintTables.{still_way, varying_way}
+use Rattle.font_theory.specs.Ways.{Way, alone, parting_by, said_by}
 use Rattle.colour_parts.specs.WorkedColours.{WorkedColoursAre, layer_colours, no_layers, two_layers}
 use Rattle.colour_parts.specs.WorkedColours.{no_varying_paints, one_paint, varying_paints}
 use Rattle.colour_parts.specs.WorkedColours.{no_paints, own_paints, paint_colours, two_paints}

@@ -1,14 +1,8 @@
 -- Laws of colour tables as divided tables, this project's own, each of them the contract of a function.
-use Rattle.std.specs.Prelude.{false}
-use Rattle.font_theory.specs.Parting.{IsParting, Parting}
-use Rattle.colour_parts.specs.ColourTables.{colours, varying_colours}
-use Rattle.colour_parts.specs.LayerTables.{layer_way}
-use Rattle.colour_parts.specs.PaintTables.{still_way, varying_way}
-use Rattle.colour_parts.specs.Ways.{parting_by}
-
--- colour tables are divided as is asked, and none is bad
-abbrev pub DividesColours : Parting → Type 0
-DividesColours D = IsParting (λ _ _. false) D
+use Rattle.font_theory.specs.ColourTables.{DividesColours, colours, varying_colours}
+use Rattle.font_theory.specs.LayerTables.{layer_way}
+use Rattle.font_theory.specs.PaintTables.{still_way, varying_way}
+use Rattle.font_theory.specs.Ways.{parting_by}
 
 -- of version 0
 abbrev pub LayerTablesAreDivided : Type 0

@@ -6,23 +6,14 @@ use Rattle.colour_tables.specs.NamedGlyphs.{colour_names, layer_names}
 use Rattle.colour_tables.specs.PaintLists.{colour_at}
 use Rattle.font_theory.specs.Content.{glyph_count}
 use Rattle.font_theory.specs.Parting.{Parting, Tables}
-use Rattle.colour_parts.specs.ColourTables.{colours, varying_colours}
-use Rattle.colour_parts.specs.LayerTables.{is_layer_table, layer_way}
-use Rattle.colour_parts.specs.PaintTables.{is_paint_table, still_way, varying_way}
-use Rattle.colour_parts.specs.Ways.{Says, Way, parting_by}
+use Rattle.font_theory.specs.ColourTables.{colours, varying_colours}
+use Rattle.colour_tables.specs.LayerLists.{is_layer_table}
+use Rattle.font_theory.specs.LayerTables.{layer_way}
+use Rattle.colour_tables.specs.PaintLists.{is_paint_table}
+use Rattle.font_theory.specs.PaintTables.{still_way, varying_way}
+use Rattle.font_theory.specs.Ways.{CutSays, MakesOf, PartTells, Way, kept_parts, parting_by}
 
--- the parts of a table for the glyphs that are kept
-abbrev pub kept_parts : Parting → Tables → List ℕ → (ℕ → Bool) → ℕ → List ℕ
-kept_parts D c t keeps g = if keeps g then D.part c t g else []
-
--- the table of the frame of a table and of the parts of kept glyphs says of these what the table says, and nothing of
--- others; so the table of all parts says all that the table says
-abbrev pub CutSays : {W X : Type 0} → Way W X → Type 0
-CutSays way =
-    (c : Tables) (t : List ℕ) (keeps : ℕ → Bool) → way.divided (glyph_count c) t ≡ true
-    → Says way (glyph_count c) (way.front t) (λ g. if keeps g then way.said (glyph_count c) t g else way.nothing)
-    ((parting_by way).whole c ((parting_by way).frame c t) (kept_parts (parting_by way) c t keeps))
-
+-- cuts say of kept glyphs what their tables say
 abbrev pub CutsSay : Type 0
 CutsSay = CutSays layer_way × CutSays still_way × CutSays varying_way
 
@@ -38,13 +29,7 @@ abbrev pub NamesOnCuts : Type 0
 NamesOnCuts =
     NamesOnCut layer_way layer_names × NamesOnCut still_way colour_names × NamesOnCut varying_way colour_names
 
--- two tables say the same of a glyph if they have one part of it
-abbrev pub PartTells : {W X : Type 0} → Way W X → Type 0
-PartTells way =
-    (c : Tables) (t u : List ℕ) (g : ℕ) → way.divided (glyph_count c) t ≡ true → way.divided (glyph_count c) u ≡ true
-    → g < glyph_count c → (parting_by way).part c t g ≡ (parting_by way).part c u g
-    → way.said (glyph_count c) t g ≡ way.said (glyph_count c) u g
-
+-- parts tell what tables say
 abbrev pub PartsTell : Type 0
 PartsTell = PartTells layer_way × PartTells still_way × PartTells varying_way
 
@@ -75,24 +60,7 @@ WholeIsBytes D =
 abbrev pub WholesAreBytes : Type 0
 WholesAreBytes = WholeIsBytes colours × WholeIsBytes varying_colours
 
--- bytes are the part of a glyph of some table that says x of it, or there are none, and nothing is said
-abbrev pub IsPartOf : {W X : Type 0} → Way W X → Tables → ℕ → X → List ℕ → Type 0
-IsPartOf way c g x b =
-    ((b ≡ []) × (x ≡ way.nothing))
-    ⊎ ((u : List ℕ) × (way.divided (glyph_count c) u ≡ true) × ((parting_by way).part c u g ≡ b)
-    × (way.said (glyph_count c) u g ≡ x))
-
--- parts that come of tables fit where what these say has room, and their table is made of it
-pub record IsMadeOf {W X : Type 0} (way : Way W X) (c : Tables) (t : List ℕ) (parts : ℕ → List ℕ) (x : ℕ → X) : Type 0
-  where
-    pub fits : (parting_by way).fits c t parts ≡ way.room (glyph_count c) x
-    pub whole : (parting_by way).whole c t parts ≡ way.made (glyph_count c) (way.front t) x
-
-abbrev pub MakesOf : {W X : Type 0} → Way W X → Type 0
-MakesOf {W} {X} way =
-    (c : Tables) (t : List ℕ) (parts : ℕ → List ℕ) (x : ℕ → X) → way.divided (glyph_count c) t ≡ true
-    → ((g : ℕ) → g < glyph_count c → IsPartOf way c g (x g) (parts g)) → IsMadeOf way c t parts x
-
+-- tables of parts are made of what the parts say
 abbrev pub WholesAreMade : Type 0
 WholesAreMade = MakesOf layer_way × MakesOf still_way × MakesOf varying_way
 

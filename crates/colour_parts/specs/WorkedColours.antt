@@ -3,7 +3,7 @@
 use Rattle.std.specs.Prelude.{◌≡◌, ℕ, true, List, [], ◌∷◌}
 use Rattle.font_theory.specs.Content.{glyph_count}
 use Rattle.font_theory.specs.Parting.{Tables}
-use Rattle.colour_parts.specs.ColourTables.{colours, varying_colours}
+use Rattle.font_theory.specs.ColourTables.{colours, varying_colours}
 
 -- a table of version 0: glyph 1 has a layer, and glyph 2 has two
 abbrev pub layer_colours : List ℕ

@@ -82,3 +82,8 @@ MAX_LAYERS = 65535
 unfoldable pub layers_have_room : ℕ → (ℕ → Option (List Layer)) → Bool
 layers_have_room n layers =
     each_below (λ g. are_layers n (layers g)) n && nat_le (sum_below (λ g. depth (layers g)) n) MAX_LAYERS
+
+-- a table of version 0 among n glyphs: it is there up to numLayerRecords, its lists are, and the layers have room
+unfoldable pub is_layer_table : ℕ → List ℕ → Bool
+is_layer_table n t =
+    nat_le 14 (length t) && nat_eq (u16_at t 0) 0 && has_layer_lists n t && layers_have_room n (layers_at t)

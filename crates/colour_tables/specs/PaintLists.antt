@@ -4,7 +4,7 @@ use Rattle.std.specs.Prelude.{drop, is_some, length, slice_index, if◌then◌el
 use Rattle.std.specs.Option.{option_and_then, option_map_or}
 use Rattle.sfnt_bytes.specs.Number.{u16_at, u32_at}
 use Rattle.colour_tables.specs.ListedGlyphs.{said_of, sum_below}
-use Rattle.colour_tables.specs.LayerLists.{depth, layers_at, layers_have_room}
+use Rattle.colour_tables.specs.LayerLists.{depth, has_layer_lists, layers_at, layers_have_room}
 use Rattle.colour_tables.specs.Paints.{MAX_DEPTH, Forest, Bare, With, Tree, place_from, shape_size, tree_at, u24_at}
 use Rattle.colour_tables.specs.declared.layer.Layer.{Layer}
 use Rattle.colour_tables.specs.declared.shape.Kind.{Kind}
@@ -78,6 +78,13 @@ pub record Colour : Type 0 where
   pub paint : Option Tree
   pub box : Option Tree
 
+-- nothing is said of a glyph
+abbrev pub no_colour : Colour
+no_colour = record { layers = None; paint = None; box = None }
+
+abbrev pub has_colour : Colour → Bool
+has_colour c = is_some c.layers || is_some c.paint || is_some c.box
+
 -- the tree of a kind at a place of a table
 unfoldable pub tree_in : ℕ → List ℕ → Kind → ℕ → Option Tree
 tree_in n t k at = tree_at n t (layer_places_of t) MAX_DEPTH at k
@@ -135,3 +142,9 @@ MAX_BYTES = 16777215
 unfoldable pub colours_have_room : ℕ → (ℕ → Colour) → Bool
 colours_have_room n x =
     layers_have_room n (λ g. (x g).layers) && nat_le (sum_below (λ g. colour_size (x g)) n) MAX_BYTES
+
+-- a table of version 1 among n glyphs: its header is there, its lists are, and what it says has room
+unfoldable pub is_paint_table : ℕ → List ℕ → Bool
+is_paint_table n t =
+    nat_le 34 (length t) && nat_eq (u16_at t 0) 1 && has_layer_lists n t && has_paint_lists n t
+    && colours_have_room n (colour_at n t)

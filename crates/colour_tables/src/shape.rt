@@ -17,8 +17,8 @@ pub enum Kind {
 /// The fields of what an offset leads to: its first byte, other bytes, and offsets.
 #[derive(Clone, Copy, Debug, PartialEq, Eq)]
 pub enum Shape {
-    /// So many other bytes, and no offset.
-    Plain(u32),
+    /// So many other bytes, and no offset. A ColorLine may have more than a `u32` can count, by its stops.
+    Plain(u64),
     /// An Offset24 after the first byte, and then so many bytes.
     One(u32, Kind),
     /// An Offset24 after the first byte, then so many bytes, and then another Offset24.

@@ -124,27 +124,27 @@ head_tag_is = refl
 module _ (writing : Writing) (K : Content) where
   -- the tables before `head`, and those after it
   abbrev pub before_head : List Table
-  before_head = tables_from writing K K.head 0 18
+  before_head = tables_from writing K K.head 0 20
 
   abbrev pub behind_head : List Table
-  behind_head = tables_from writing K K.head 19 10
+  behind_head = tables_from writing K K.head 21 10
 
   same_slot : (head : List ℕ) (slot : ℕ) → slot ≢ 6 → bytes_in_slot writing K head slot ≡ bytes_in_slot writing K K.head
       slot
   unfolding bytes_in_slot
   same_slot head slot other = let f = ne_eqb slot 6 other in rw f refl
 
-  same_lines : (head : List ℕ) (k n : ℕ) → k + n ≤ ALL_SLOTS → (18 < k) ⊎ (k + n ≤ 18)
+  same_lines : (head : List ℕ) (k n : ℕ) → k + n ≤ ALL_SLOTS → (20 < k) ⊎ (k + n ≤ 20)
       → map (table_at_place writing K head) (range_with_len k n) ≡ map (table_at_place writing K K.head)
       (range_with_len k n)
   same_lines head k zero few out = refl
   same_lines head k (suc n) few out =
-      let other : k ≢ 18 = λ e. elim out [ inl h ↦ omega arith | inr h ↦ omega arith ] in
-      let next : (18 < k + 1) ⊎ (k + 1 + n ≤ 18) = elim out [ inl h ↦ inl (omega arith) | inr h ↦ inr (omega arith) ] in
-      let here = same_slot head (slot_at k) (eqb-false _ _ (slot_at-head k (omega arith) ∙ ne_eqb k 18 other)) in
+      let other : k ≢ 20 = λ e. elim out [ inl h ↦ omega arith | inr h ↦ omega arith ] in
+      let next : (20 < k + 1) ⊎ (k + 1 + n ≤ 20) = elim out [ inl h ↦ inl (omega arith) | inr h ↦ inr (omega arith) ] in
+      let here = same_slot head (slot_at k) (eqb-false _ _ (slot_at-head k (omega arith) ∙ ne_eqb k 20 other)) in
       λ i. option_map (table_with (slot_at k)) (here i) ∷ same_lines head (k + 1) n (omega arith) next i
 
-  head_slot : (head : List ℕ) → tables_from writing K head 18 11 ≡ table_with 6 head ∷ tables_from writing K head 19 10
+  head_slot : (head : List ℕ) → tables_from writing K head 20 11 ≡ table_with 6 head ∷ tables_from writing K head 21 10
   unfolding bytes_in_slot slot_at
   head_slot head = refl
 
@@ -152,10 +152,10 @@ module _ (writing : Writing) (K : Content) where
   pub split_at_head : (head : List ℕ)
       → tables_from writing K head 0 ALL_SLOTS ≡ before_head ++ table_with 6 head ∷ behind_head
   split_at_head head =
-      tables_from-split writing K head 0 18 11
-      ∙ ap (λ (l : List Table). tables_from writing K head 0 18 ++ l) (head_slot head)
-      ∙ (λ i. said_lines (same_lines head 0 18 (omega arith) (inr (omega arith)) i) ++ table_with 6 head
-      ∷ said_lines (same_lines head 19 10 (omega arith) (inl (omega arith)) i))
+      tables_from-split writing K head 0 20 11
+      ∙ ap (λ (l : List Table). tables_from writing K head 0 20 ++ l) (head_slot head)
+      ∙ (λ i. said_lines (same_lines head 0 20 (omega arith) (inr (omega arith)) i) ++ table_with 6 head
+      ∷ said_lines (same_lines head 21 10 (omega arith) (inl (omega arith)) i))
 
   -- where `head` stands
   abbrev pub head_at : ℕ
@@ -177,7 +177,7 @@ module _ (writing : Writing) (K : Content) where
 
   head_nowhere : find (is_of 6) before_head ≡ None
   head_nowhere = subst (λ (slot : ℕ). find (is_of slot) before_head ≡ None) (slot_at-place_of 6 (omega arith))
-      (found_nowhere writing K K.head 18 0 18 (omega arith) (omega arith) (inr (omega arith)))
+      (found_nowhere writing K K.head 20 0 20 (omega arith) (omega arith) (inr (omega arith)))
 
   head_same : same_tag (slot_tag 6) (slot_tag 6) ≡ true
   unfolding slot_tag kept_tag

@@ -60,3 +60,8 @@ pub mod SequencePartLemmas
 pub mod SequenceTableLemmas
 pub mod SequenceSettingsLemmas
 pub mod UnsequencedLemmas
+pub mod WayLemmas
+pub mod SideLemmas
+pub mod LayerTableLemmas
+pub mod PaintTableLemmas
+pub mod ColourTableLemmas

@@ -40,7 +40,7 @@ layout-copied slot h =
     let to = ltb-true slot 21 both.1 in
     let e1 = ne_eqb slot 1 (λ e. omega arith) in let e5 = ne_eqb slot 5 (λ e. omega arith) in let e6 =
     ne_eqb slot 6 (λ e. omega arith) in let e9 = ne_eqb slot 9 (λ e. omega arith) in
-    let last : nat_le 21 slot ≡ false = lt-leb 21 slot to in
+    let last : nat_le FIRST_VARIATION slot ≡ false = lt-leb FIRST_VARIATION slot (omega (arith, to)) in
     rw (e1, e5, e6, e9) last
 
 -- what is always empty no cut copies
@@ -63,14 +63,14 @@ never-filled slot h other = elim (or_cases _ (nat_le ALL_SLOTS slot) h) [
 -- what no cut copies, a layout cut does not copy, and what that does not copy a plain one does not
 pub never-layout : (slot : ℕ) → is_never_copied slot ≡ true → is_never_in_layout slot ≡ true
 never-layout slot h = elim (or_cases _ (nat_le ALL_SLOTS slot) h) [
-  | inl one ↦ or_left _ (nat_le 21 slot) one
-  | inr past ↦ let far = leb-true ALL_SLOTS slot past in or_right _ (nat_le 21 slot) (le-leb 21 slot (omega arith))
+  | inl one ↦ or_left _ (nat_le FIRST_VARIATION slot) one
+  | inr past ↦ let far = leb-true ALL_SLOTS slot past in or_right _ (nat_le FIRST_VARIATION slot) (le-leb 21 slot (omega arith))
 ]
 
 pub never-in_plain : (slot : ℕ) → is_never_in_layout slot ≡ true → is_made slot ≡ true
-never-in_plain slot h = elim (or_cases _ (nat_le 21 slot) h) [
+never-in_plain slot h = elim (or_cases _ (nat_le FIRST_VARIATION slot) h) [
   | inl one ↦ or_left _ (nat_le 16 slot) one
-  | inr past ↦ let far = leb-true 21 slot past in or_right _ (nat_le 16 slot) (le-leb 16 slot (omega arith))
+  | inr past ↦ let far = leb-true FIRST_VARIATION slot past in or_right _ (nat_le 16 slot) (le-leb 16 slot (omega arith))
 ]
 
 -- so what a plain cut copies a layout one does, and what that copies some cut

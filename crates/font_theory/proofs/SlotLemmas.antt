@@ -144,9 +144,10 @@ module _ (writing : Writing) (K : Content) (head : List ℕ) where
   tables_from-plain plain =
       let none : (slot : ℕ) → is_made slot ≡ true → option_map (table_with slot) (K.copied slot) ≡ None =
       λ slot made. ap (option_map (table_with slot)) (plain slot made) in
-      (λ i. said_lines (none 16 refl i ∷ none 17 refl i ∷ none 18 refl i ∷ none 19 refl i ∷ none 21 refl i
-      ∷ none 22 refl i ∷ (own 0 1 ++ (none 23 refl i ∷ none 24 refl i ∷ none 25 refl i ∷ (own 1 1 ++ (none 26 refl i
-      ∷ (own 2 2 ++ (none 27 refl i ∷ (own 4 2 ++ (none 28 refl i ∷ (own 6 3 ++ (none 20 refl i ∷ own 9 7))))))))))))
+      (λ i. said_lines (none 16 refl i ∷ none 21 refl i ∷ none 22 refl i ∷ none 17 refl i ∷ none 18 refl i
+      ∷ none 19 refl i ∷ none 23 refl i ∷ none 24 refl i ∷ (own 0 1 ++ (none 25 refl i ∷ none 26 refl i ∷ none 27 refl i
+      ∷ (own 1 1 ++ (none 28 refl i ∷ (own 2 2 ++ (none 29 refl i ∷ (own 4 2 ++ (none 30 refl i ∷ (own 6 3
+      ++ (none 20 refl i ∷ own 9 7))))))))))))
       ∙ skip (own 0 1) (None ∷ None ∷ (own 1 1 ++ (None ∷ (own 2 2 ++ (None ∷ (own 4 2 ++ (None ∷ (own 6 3
       ++ (None ∷ own 9 7)))))))))
       ∙ skip (own 0 1) (None ∷ (own 1 1 ++ (None ∷ (own 2 2 ++ (None ∷ (own 4 2 ++ (None ∷ (own 6 3

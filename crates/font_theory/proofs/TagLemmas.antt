@@ -23,7 +23,7 @@ pub place_tag-ascends : (place : ℕ) → suc place < ALL_SLOTS
     → tag_number (place_tag place) < tag_number (place_tag (suc place))
 unfolding kept_tag slot_at slot_tag u32_at
 place_tag-ascends place low =
-    ltb-true _ _ (agree_below_at (λ i. ltb (tag_number (place_tag i)) (tag_number (place_tag (suc i)))) (λ _. true) 28
+    ltb-true _ _ (agree_below_at (λ i. ltb (tag_number (place_tag i)) (tag_number (place_tag (suc i)))) (λ _. true) 30
     place refl (omega arith))
 
 pub same_tag-head : (place : ℕ) → place < ALL_SLOTS
@@ -33,31 +33,31 @@ same_tag-head place low = agree_below_at (λ i. same_tag (place_tag i) (named (c
     ALL_SLOTS place refl low
 
 -- two places in one number
-pair_same : (pair : ℕ) → pair < 841 → same_tag (place_tag (pair / 29)) (place_tag (pair % 29))
-    ≡ eqb (pair / 29) (pair % 29)
+pair_same : (pair : ℕ) → pair < 961 → same_tag (place_tag (pair / 31)) (place_tag (pair % 31))
+    ≡ eqb (pair / 31) (pair % 31)
 unfolding kept_tag slot_at slot_tag
-pair_same pair low = agree_below_at (λ i. same_tag (place_tag (i / 29)) (place_tag (i % 29)))
-    (λ i. eqb (i / 29) (i % 29)) 841 pair refl low
+pair_same pair low = agree_below_at (λ i. same_tag (place_tag (i / 31)) (place_tag (i % 31)))
+    (λ i. eqb (i / 31) (i % 31)) 961 pair refl low
 
 pub same_tag-places : (place other : ℕ) → place < ALL_SLOTS → other < ALL_SLOTS
     → same_tag (place_tag place) (place_tag other)
     ≡ eqb place other
 same_tag-places place other low below =
-    let pair = 29 * place + other in
-    let first : pair / 29 ≡ place = omega arith in
-    let second : pair % 29 ≡ other = omega arith in
+    let pair = 31 * place + other in
+    let first : pair / 31 ≡ place = omega arith in
+    let second : pair % 31 ≡ other = omega arith in
     (λ i. same_tag (place_tag (sym first i)) (place_tag (sym second i))) ∙ pair_same pair (omega arith)
     ∙ (λ i. eqb (first i) (second i))
 
 -- `head` stands at one place
-pub slot_at-head : (place : ℕ) → place < ALL_SLOTS → eqb (slot_at place) 6 ≡ eqb place 18
+pub slot_at-head : (place : ℕ) → place < ALL_SLOTS → eqb (slot_at place) 6 ≡ eqb place 20
 unfolding slot_at
-slot_at-head place low = agree_below_at (λ i. eqb (slot_at i) 6) (λ i. eqb i 18) ALL_SLOTS place refl low
+slot_at-head place low = agree_below_at (λ i. eqb (slot_at i) 6) (λ i. eqb i 20) ALL_SLOTS place refl low
 
 -- the places of the slots
 abbrev places : List ℕ
-places = 6 ∷ 10 ∷ 12 ∷ 13 ∷ 15 ∷ 16 ∷ 18 ∷ 19 ∷ 20 ∷ 22 ∷ 23 ∷ 24 ∷ 25 ∷ 26 ∷ 27 ∷ 28
-    ∷ 0 ∷ 1 ∷ 2 ∷ 3 ∷ 21 ∷ 4 ∷ 5 ∷ 7 ∷ 8 ∷ 9 ∷ 11 ∷ 14 ∷ 17 ∷ []
+places = 8 ∷ 12 ∷ 14 ∷ 15 ∷ 17 ∷ 18 ∷ 20 ∷ 21 ∷ 22 ∷ 24 ∷ 25 ∷ 26 ∷ 27 ∷ 28 ∷ 29 ∷ 30
+    ∷ 0 ∷ 3 ∷ 4 ∷ 5 ∷ 23 ∷ 1 ∷ 2 ∷ 6 ∷ 7 ∷ 9 ∷ 10 ∷ 11 ∷ 13 ∷ 16 ∷ 19 ∷ []
 
 -- the place of a slot
 abbrev pub place_of : ℕ → ℕ

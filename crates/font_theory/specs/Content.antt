@@ -18,7 +18,7 @@ use Rattle.font_variations.specs.Gvar.{is_bad_variations}
 use Rattle.font_file.specs.Font.{map_of}
 use Rattle.font_theory.specs.Bytes.{cut_head, padded}
 use Rattle.font_theory.specs.SequenceTable.{is_bad_sequences}
-pub use Rattle.font_theory.specs.Slots.{is_made, is_never_copied, is_never_filled, is_never_in_layout}
+pub use Rattle.font_theory.specs.Slots.{is_colour_slot, is_made, is_never_copied, is_never_filled, is_never_in_layout}
 use Rattle.font_theory.specs.declared.kinds.TheConstants.{SEQUENCES}
 
 -- how many code points there are: 0 to 0x10FFFF

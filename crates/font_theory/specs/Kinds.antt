@@ -7,26 +7,30 @@ use Rattle.sfnt_bytes.specs.Lines.{first_of_lines, when}
 use Rattle.sfnt_bytes.specs.Refusals.{tag_lines}
 use Rattle.sfnt_bytes.specs.declared.directory.TheConstants.{MAX_FILE}
 use Rattle.sfnt_bytes.specs.declared.tag.Tag.{Tag}
-use Rattle.sfnt_bytes.specs.declared.tag.TheConstants.{ALL_SLOTS, FIRST_VARIATION, GSUB, GVAR, HHEA, HMTX, LAYOUT}
-use Rattle.sfnt_bytes.specs.declared.tag.TheConstants.{LAYOUT_AND_VARIATIONS, POST, VHEA, VMTX}
+use Rattle.sfnt_bytes.specs.declared.tag.TheConstants.{ALL_SLOTS, COLR, CPAL, FIRST_VARIATION, GSUB, GVAR, HHEA}
+use Rattle.sfnt_bytes.specs.declared.tag.TheConstants.{HMTX, LAYOUT_AND_COLOURS, OTHERS, POST, VHEA, VMTX}
 use Rattle.codes.specs.CharacterMap.{AreCompatible, united}
 use Rattle.font_glyph.specs.Reach.{any_below}
 use Rattle.font_glyph.specs.RecordMap.{union_of}
 use Rattle.font_tables.specs.Fields.{glyph_count_of}
+use Rattle.colour_tables.specs.PaintLists.{has_colour, is_paint_table, no_colour}
+use Rattle.colour_tables.specs.Stores.{Store, no_store, store_of}
 use Rattle.font_file.specs.Font.{cmap_of, font_fault, map_of}
 use Rattle.font_file.specs.declared.font_error.FontError.{FontError}
 use Rattle.font_file.specs.declared.font_error.FontError.TheVariants.{BadVariations, Directory}
 use Rattle.font_theory.specs.Bytes.{padded}
+use Rattle.font_theory.specs.ColourTables.{colour_alone, colours, colr_with, glyph_colour, said_colour, varying_colours}
 use Rattle.font_theory.specs.Content.{Content, Font, Wanted, content, everything, glyph_count, is_bad_variations_in}
-use Rattle.font_theory.specs.Content.{is_kept, is_made, is_never_copied, is_never_filled, is_never_in_layout}
+use Rattle.font_theory.specs.Content.{is_colour_slot, is_kept, is_made, is_never_copied, is_never_filled}
+use Rattle.font_theory.specs.Content.{is_never_in_layout}
 use Rattle.font_theory.specs.Content.{plain_font, table_in_slot}
 use Rattle.font_theory.specs.Cut.{Format, IsCut, IsFormat, content_of_all}
 use Rattle.font_theory.specs.Difference.{PARTED}
 use Rattle.font_theory.specs.File.{current_profile, current_writing, file, writing_of}
 use Rattle.font_theory.specs.Links.{fixed}
 use Rattle.font_theory.specs.Parted.{either_bytes, gvar_with, metrics, nameless, sequences, variation_data, variations}
-use Rattle.font_theory.specs.Parting.{Partition, Tables, context, divided, frames, parts_of, undivided, IsPartition}
-use Rattle.font_theory.specs.Parting.{misfit_by, undivided_content}
+use Rattle.font_theory.specs.Parting.{IsPartition, Parting, Partition, Tables, context, divided, frames, parts_of}
+use Rattle.font_theory.specs.Parting.{misfit_by, undivided, undivided_content}
 use Rattle.font_theory.specs.declared.Profile.{Profile}
 use Rattle.font_theory.specs.declared.Profile.TheVariants.{First}
 use Rattle.font_theory.specs.SequenceTable.{pairs_of_parts, sequence_table, sequences_of_font}
@@ -58,10 +62,16 @@ pub record Settings : Type 0 where
 unfoldable pub sequences_of_file : List ℕ → List ℕ
 sequences_of_file file = sequences_of_font (cmap_of file) (map_of file) (glyph_count_of file)
 
+-- the palettes of a file, which has none without a table of colours (OpenType 1.9, CPAL; COLR)
+unfoldable pub palettes_of_file : List ℕ → Option (List ℕ)
+palettes_of_file file = if is_some (table_of file (slot_tag COLR)) then table_of file (slot_tag CPAL) else None
+
 -- what a file has in a slot: the table of its tag, or past all tags the variation sequences
 abbrev pub table_in_file : List ℕ → ℕ → Option (List ℕ)
 table_in_file file slot =
-    if nat_eq slot SEQUENCES then Some (sequences_of_file file) else table_of file (slot_tag slot)
+    if nat_eq slot SEQUENCES then Some (sequences_of_file file)
+    else if nat_eq slot CPAL then palettes_of_file file
+    else table_of file (slot_tag slot)
 
 -- the tables that a file has for cuts with these settings
 abbrev pub tables_by : Settings → List ℕ → Tables
@@ -118,6 +128,9 @@ pub record AreSettings (s : Settings) : Type 0 where
   pub whole : (slot : ℕ) → s.reading slot ≡ unvarying → s.partition slot ≡ undivided
   pub sequences :
       (s.reading SEQUENCES ≡ absent) ⊎ ((s.reading SEQUENCES ≡ as_it_is) × (s.partition SEQUENCES ≡ sequences))
+  pub colours :
+      ((s.reading COLR ≡ absent) × (s.reading CPAL ≡ absent))
+      ⊎ ((s.reading COLR ≡ as_it_is) × (s.reading CPAL ≡ as_it_is))
   pub partition : IsPartition s.partition
 
 -- the tables of a plain cut alone
@@ -154,9 +167,10 @@ lean_settings =
 unfoldable pub layout_settings : Settings
 layout_settings = record {
   reading =
-      λ slot. if is_never_in_layout slot then absent else if is_layout_slot slot then unvarying else as_it_is;
+      λ slot. if is_colour_slot slot || is_never_in_layout slot then absent
+          else if is_layout_slot slot then unvarying else as_it_is;
   partition = by_metrics;
-  tags = LAYOUT;
+  tags = LAYOUT_AND_COLOURS;
   old = current_profile;
   by_number = true;
 }
@@ -164,9 +178,9 @@ layout_settings = record {
 -- layout cuts that keep variations too (OpenType 1.9, gvar; fvar; avar; cvar; HVAR; MVAR; STAT; VVAR)
 unfoldable pub variable_settings : Settings
 variable_settings = record {
-  reading = λ slot. if is_never_copied slot then absent else as_it_is;
+  reading = λ slot. if is_colour_slot slot || is_never_copied slot then absent else as_it_is;
   partition = by_variations;
-  tags = LAYOUT_AND_VARIATIONS;
+  tags = OTHERS;
   old = current_profile;
   by_number = true;
 }
@@ -181,18 +195,39 @@ with_sequences s = record {
   by_number = s.by_number;
 }
 
--- the settings of a kind
+-- settings that keep colours too, those of the kept glyphs, and beside them the palettes (OpenType 1.9, COLR; CPAL)
+abbrev pub with_colours : Parting → Settings → Settings
+with_colours D s = record {
+  reading = λ slot. if is_colour_slot slot then as_it_is else s.reading slot;
+  partition = λ slot. if nat_eq slot COLR then D else s.partition slot;
+  tags = s.tags;
+  old = s.old;
+  by_number = s.by_number;
+}
+
+-- the settings of a kind: what varies in colours is kept in variable cuts alone
 abbrev pub settings : Kind → Settings
 settings Full = full_settings
 settings Lean = lean_settings
-settings Layout = with_sequences layout_settings
-settings Variable = with_sequences variable_settings
+settings Layout = with_colours colours (with_sequences layout_settings)
+settings Variable = with_colours varying_colours (with_sequences variable_settings)
 
 -- whether cuts of a kind keep variation sequences
 abbrev pub keeps_sequences : Kind → Bool
 keeps_sequences Full = false
 keeps_sequences Lean = false
 keeps_sequences _ = true
+
+-- whether cuts of a kind keep colours
+abbrev pub keeps_colours : Kind → Bool
+keeps_colours Full = false
+keeps_colours Lean = false
+keeps_colours _ = true
+
+-- what cuts of a kind keep of what varies in colours
+abbrev pub colour_front : Kind → List ℕ → Store
+colour_front Variable = store_of
+colour_front _ = λ _. no_store
 
 -- whether cuts of a kind divide tables
 abbrev pub divides_tables : Kind → Bool
@@ -270,13 +305,14 @@ abbrev pub pairs_of_glyph : Tables → ℕ → List ℕ
 pairs_of_glyph copied = parts_of (λ _. sequences) copied SEQUENCES
 
 -- the same in other words: `hmtx` and `vmtx` of both byte by byte, where one has 0 the other's, a `gvar` with the data
--- of both, the variation sequences of both, and the other tables of either
+-- of both, a `COLR` that says what both say, the variation sequences of both, and the other tables of either
 pub record IsWrittenUnion (K L U : Content) : Type 0 where
   pub head : U.head ≡ K.head
   pub map : U.map ≡ united K.map L.map
   pub outline : U.outline ≡ union_of K.outline L.outline
   pub others :
-      (slot : ℕ) → slot ≢ GVAR → slot ≢ HMTX → slot ≢ VMTX → slot ≢ SEQUENCES → U.copied slot ≡ K.copied slot
+      (slot : ℕ) → slot ≢ GVAR → slot ≢ HMTX → slot ≢ VMTX → slot ≢ COLR → slot ≢ SEQUENCES
+      → U.copied slot ≡ K.copied slot
   pub hmtx : U.copied HMTX ≡ option_map (λ t. either_bytes t (table_in_slot L.copied HMTX)) (K.copied HMTX)
   pub vmtx : U.copied VMTX ≡ option_map (λ t. either_bytes t (table_in_slot L.copied VMTX)) (K.copied VMTX)
   pub gvar :
@@ -285,6 +321,12 @@ pub record IsWrittenUnion (K L U : Content) : Type 0 where
       (λ g. if is_some (K.outline g) then variation_data K.copied g else variation_data L.copied g)
       (glyph_count K.copied))
       (K.copied GVAR)
+  pub colours :
+      U.copied COLR ≡ option_map
+      (colr_with store_of
+      (λ g. if is_some (K.outline g) then glyph_colour K.copied g else glyph_colour L.copied g)
+      (glyph_count K.copied))
+      (K.copied COLR)
   pub sequences :
       U.copied SEQUENCES ≡ option_map
       (λ _. sequence_table (pairs_of_parts (glyph_count K.copied)
@@ -306,12 +348,39 @@ without_layout F = record {
   there = λ _. false;
 }
 
--- a file has no table of variations, and nothing in its tables of layout that varies
+-- a file has no table of variations, and nothing in its tables of layout and of colours that varies
 pub record HasNothingVarying (file : List ℕ) : Type 0 where
   pub absent : (slot : ℕ) → FIRST_VARIATION ≤ slot → slot < ALL_SLOTS → table_of file (slot_tag slot) ≡ None
   pub fixed :
       (slot : ℕ) → is_layout_slot slot ≡ true →
       option_map (fixed slot) (table_of file (slot_tag slot)) ≡ table_of file (slot_tag slot)
+  pub colours :
+      (colr : List ℕ) → table_of file (slot_tag COLR) ≡ Some colr → is_paint_table (glyph_count_of file) colr ≡ true
+      → store_of colr ≡ no_store
+
+-- how settings that keep colours divide those of a file: the frame says nothing of any glyph, and the part of a glyph
+-- says of it alone what the file says; where the table is not divided it is its own frame, and there are no parts
+pub record AreColoursOf (front : List ℕ → Store) (s : Settings) (file colr : List ℕ) : Type 0 where
+  pub frame : frames s.partition (tables_by s file) COLR
+      ≡ Some (colr_with front (λ _. no_colour) (glyph_count_of file) colr)
+  pub part :
+      (g : ℕ) → g < glyph_count_of file → parts_of s.partition (tables_by s file) COLR g
+      ≡ (if has_colour (said_colour (glyph_count_of file) colr g)
+      then colr_with (λ _. no_store) (colour_alone (said_colour (glyph_count_of file) colr g) g) (glyph_count_of file) colr
+      else [])
+
+-- how colours are kept by a cut of a file that keeps these glyphs: `CPAL` is that of the file beside a `COLR`, which
+-- says of each kept glyph what that of the file says, and nothing of others
+pub record KeepsColours (front : List ℕ → Store) (keeps : ℕ → Bool) (file made : List ℕ) : Type 0 where
+  pub palettes : table_of made (slot_tag CPAL) ≡ palettes_of_file file
+  pub table :
+      table_of made (slot_tag COLR) ≡ option_map (λ t. colr_with front
+      (λ g. if keeps g then said_colour (glyph_count_of file) t g else no_colour) (glyph_count_of file) t)
+      (table_of file (slot_tag COLR))
+  pub said :
+      (t u : List ℕ) → table_of file (slot_tag COLR) ≡ Some t → table_of made (slot_tag COLR) ≡ Some u → (g : ℕ)
+      → g < glyph_count_of file → said_colour (glyph_count_of file) u g
+      ≡ (if keeps g then said_colour (glyph_count_of file) t g else no_colour)
 
 -- cuts of one kind: files that this program reads, and writes as it writes what is spelled of their contents
 pub record IsKind (R : Format) (fault : List ℕ → Option FontError) (font : List ℕ → Font)

@@ -4,7 +4,7 @@ use Rattle.std.specs.Prelude.{◌≡◌, ℕ, ◌<◌, nat_eq, nat_lt, not, Bool
 use Rattle.std.specs.Prelude.{if◌then◌else◌, Option, None}
 use Rattle.std.specs.Option.{option_map, option_map_or}
 use Rattle.sfnt_bytes.specs.Lines.{first_of_lines, when}
-use Rattle.sfnt_bytes.specs.declared.tag.TheConstants.{FVAR, GVAR, HMTX, POST, VMTX}
+use Rattle.sfnt_bytes.specs.declared.tag.TheConstants.{COLR, FVAR, GVAR, HMTX, POST, VMTX}
 use Rattle.font_tables.specs.Refusals.{is_bad_hmtx}
 use Rattle.font_variations.specs.Gvar.{is_bad_variations}
 use Rattle.font_theory.specs.Content.{Content, Font, glyph_count, metric_count}
@@ -53,7 +53,8 @@ pub record IsParting (bad : Tables → List ℕ → Bool) (D : Parting) : Type 0
 -- the slots of the tables that some cuts divide
 abbrev pub may_divide : ℕ → Bool
 may_divide slot =
-    nat_eq slot GVAR || nat_eq slot HMTX || nat_eq slot POST || nat_eq slot VMTX || nat_eq slot SEQUENCES
+    nat_eq slot GVAR || nat_eq slot HMTX || nat_eq slot POST || nat_eq slot VMTX || nat_eq slot COLR
+    || nat_eq slot SEQUENCES
 
 -- the tables that a divided table may be read with: the others
 unfoldable pub context : Tables → Tables

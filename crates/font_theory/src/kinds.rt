@@ -6,7 +6,7 @@ ghost use Rattle.sfnt_bytes.specs.Directory.{kept_tag, slot_tag, table_of};
 ghost use Rattle.sfnt_bytes.specs.Findings.{findings_of};
 ghost use Rattle.sfnt_bytes.specs.declared.directory.DirError.TheVariants.{FileTooLarge};
 ghost use Rattle.sfnt_bytes.specs.declared.directory.TheConstants.{MAX_FILE};
-ghost use Rattle.sfnt_bytes.specs.declared.tag.TheConstants.{BASE, FIRST_VARIATION, FVAR, GDEF, GPOS, GSUB, GVAR, HHEA, HMTX, KERN, POST, SLOTS, VHEA, VMTX};
+ghost use Rattle.sfnt_bytes.specs.declared.tag.TheConstants.{BASE, COLR, CPAL, FIRST_VARIATION, FVAR, GDEF, GPOS, GSUB, GVAR, HHEA, HMTX, KERN, POST, SLOTS, VHEA, VMTX};
 ghost use Rattle.font_tables.specs.Fields.{glyph_count_of};
 ghost use Rattle.font_tables.specs.Metrics.{metric_of};
 ghost use Rattle.font_tables.specs.Outlines.{outline_of};
@@ -19,22 +19,24 @@ ghost use Rattle.font_file.specs.Font.{cmap_of, font_fault, map_of};
 ghost use Rattle.font_file.specs.declared.font_error.FontError.{FontError};
 ghost use Rattle.font_file.specs.declared.font_error.FontError.TheVariants.{Directory};
 ghost use Rattle.font_theory.specs.Agreement.{Agree, both};
+ghost use Rattle.colour_tables.specs.Stores.{no_store, store_of};
 ghost use Rattle.font_theory.specs.Bytes.{padded};
+ghost use Rattle.font_theory.specs.ColourTables.{DividesColours, colours, varying_colours};
 ghost use Rattle.font_theory.specs.Content.{Content, Font, IsClosedContent, IsFont, Wanted, content, either_wanted, everything, plain_font, glyph_count, is_kept, is_never_copied, is_root, is_seed, of_codes, read_back, wanted_within, table_in_slot};
 ghost use Rattle.font_theory.specs.Cut.{Arises, CanJoin, IsCurrent, IsCut, IsFormat, Under, Writes, content_of_all, cut, is_cut, joined, misfit_of, our_format, either_wanted};
 ghost use Rattle.font_theory.specs.Difference.{are_different, difference, has_other_part, is_different_glyph};
-ghost use Rattle.font_theory.specs.Kinds.{AgreeBy, AreSettings, HasNothingVarying, IsKind, IsUnionBy, IsWrittenUnion, Settings, by_metrics, by_variations, fault_by, fault_of, font_of, font_by, format_by, format_of, has_record, kept_data, partition_of, reduced, settings, spelled_by, tables_by, tables_of, without_layout, divides_tables, gsub_bytes, keeps_sequences, sequences_of_file, with_sequences};
+ghost use Rattle.font_theory.specs.Kinds.{AgreeBy, AreColoursOf, AreSettings, HasNothingVarying, IsKind, IsUnionBy, IsWrittenUnion, KeepsColours, Settings, by_metrics, by_variations, fault_by, fault_of, font_of, font_by, format_by, format_of, has_record, kept_data, partition_of, reduced, settings, spelled_by, tables_by, tables_of, without_layout, divides_tables, gsub_bytes, colour_front, keeps_colours, keeps_sequences, sequences_of_file, with_colours, with_sequences};
 ghost use Rattle.font_theory.specs.Kinds.Reading.{absent};
 ghost use Rattle.font_theory.specs.Links.{links};
 ghost use Rattle.font_theory.specs.Parted.{cleared, gvar_with, metrics_at, pairs_in, thin_post, variation_data};
-ghost use Rattle.font_theory.specs.Parting.{AlwaysFits, Tables, divided, parts_of, undivided, undivided_content};
+ghost use Rattle.font_theory.specs.Parting.{AlwaysFits, Parting, Tables, divided, parts_of, undivided, undivided_content};
 ghost use Rattle.font_theory.specs.SequenceTable.{sequence_table};
 ghost use Rattle.font_theory.specs.Tree.{IsSmall, JoinTree, Overflows, Value, cuts, union_in};
 ghost use Rattle.font_theory.specs.declared.kinds.Kind.TheVariants.{Full, Layout, Lean, Variable};
 ghost use Rattle.font_theory.specs.declared.kinds.TheConstants.{SEQUENCES as SEQUENCE_SLOT};
 
 /// The slot of variation sequences, after those of all tables: they stand in `cmap`, and are no table of their own.
-pub const SEQUENCES: usize = 29;
+pub const SEQUENCES: usize = 31;
 
 /// A kind of cuts.
 #[derive(Clone, Copy, Debug, PartialEq, Eq)]
@@ -69,6 +71,16 @@ impl Kind {
             Kind::Layout | Kind::Variable => true,
         }
     }
+
+    /// Tells whether cuts of the kind keep colours.
+    pub fn keeps_colours(self) -> bool
+        ensures { result ≡ keeps_colours self }
+    {
+        match self {
+            Kind::Full | Kind::Lean => false,
+            Kind::Layout | Kind::Variable => true,
+        }
+    }
 }
 
 /// The slots that kinds look into are those of the tables after which they are named.
@@ -78,6 +90,7 @@ pub fn slots_are()
         × (slot_tag VMTX ≡ named (codes "vmtx")) × (slot_tag BASE ≡ named (codes "BASE"))
         × (slot_tag GDEF ≡ named (codes "GDEF")) × (slot_tag GPOS ≡ named (codes "GPOS"))
         × (slot_tag GSUB ≡ named (codes "GSUB")) × (slot_tag KERN ≡ named (codes "kern"))
+        × (slot_tag COLR ≡ named (codes "COLR")) × (slot_tag CPAL ≡ named (codes "CPAL"))
         × (slot_tag FIRST_VARIATION ≡ named (codes "HVAR"))
         × (slot_tag (FIRST_VARIATION + 1) ≡ named (codes "MVAR"))
         × (slot_tag (FIRST_VARIATION + 2) ≡ named (codes "STAT"))
@@ -122,6 +135,49 @@ pub fn cuts_without_sequences_are()
         → sequences_of_file file ≡ [] → (fault_by (with_sequences s) file ≡ fault_by s file)
         × (fault_by s file ≡ None → (wanted : Wanted) →
         cut (format_by (with_sequences s)) file wanted ≡ cut (format_by s) file wanted) }
+{}
+
+/// So are any with colours, which are divided as is asked, be it with what varies or without it.
+pub fn colours_can_be_kept()
+    ensures divided { DividesColours colours × DividesColours varying_colours }
+    ensures kept { (D : Parting) → DividesColours D → (s : Settings) → AreSettings s → AreSettings (with_colours D s)
+        × IsKind (format_by (with_colours D s)) (fault_by (with_colours D s)) (font_by (with_colours D s))
+        (undivided_content (with_colours D s).partition) }
+{}
+
+/// There the part of a glyph is a table that says of this glyph alone what that of the file says, and the frame says
+/// nothing of any glyph, and has nothing that varies.
+pub fn colours_are_kept()
+    ensures { (s : Settings) → AreSettings s → (file colr : List ℕ) → table_of file (slot_tag COLR) ≡ Some colr →
+        AreColoursOf (λ _. no_store) (with_colours colours s) file colr }
+{}
+
+/// The same of colours with what varies, which is in the frame.
+pub fn varying_colours_are_kept()
+    ensures { (s : Settings) → AreSettings s → (file colr : List ℕ) → table_of file (slot_tag COLR) ≡ Some colr →
+        AreColoursOf store_of (with_colours varying_colours s) file colr }
+{}
+
+/// It does not matter whether colours or variation sequences are kept first.
+pub fn colours_beside_sequences()
+    ensures { (D : Parting) (s : Settings) →
+        with_colours D (with_sequences s) ≡ with_sequences (with_colours D s) }
+{}
+
+/// A cut has the colours of the glyphs that it keeps, and the palettes of the font beside them, byte for byte.
+pub fn colours_of_cut_are()
+    ensures { (kind : Kind) → keeps_colours kind ≡ true → (file : List ℕ) → fault_of kind file ≡ None →
+        (wanted : Wanted) → KeepsColours (colour_front kind) (is_kept (font_of kind file) wanted) file
+        (cut (format_of kind) file wanted) }
+{}
+
+/// A font without colours is refused, or has its cuts, as where none are kept, byte for byte.
+pub fn cuts_without_colours_are()
+    ensures { (D : Parting) → DividesColours D → (s : Settings) → AreSettings s → s.reading COLR ≡ absent →
+        s.reading CPAL ≡ absent → (file : List ℕ) → table_of file (slot_tag COLR) ≡ None
+        → (fault_by (with_colours D s) file ≡ fault_by s file)
+        × (fault_by s file ≡ None → (wanted : Wanted) →
+        cut (format_by (with_colours D s)) file wanted ≡ cut (format_by s) file wanted) }
 {}
 
 /// Full cuts are read and written as a plain reader reads and as this program writes, and lean ones are read of what a
@@ -285,7 +341,7 @@ pub fn different_glyph_is()
 
 /// What the union of two such contents that agree is written of: the head and the frames of the first, its map and its
 /// outlines the unions of both, and the parts of both; and so its `hmtx` and `vmtx` those of both byte by byte, where
-/// one has 0 the other's, and a `gvar` with the data of both.
+/// one has 0 the other's, a `gvar` with the data of both, and a `COLR` that says what both say.
 pub fn union_is()
     ensures { (kind : Kind) (K L : Content) → Arises (format_of kind) K → Arises (format_of kind) L → Agree K L
         → IsUnionBy (partition_of kind) (spelled_by kind K) (spelled_by kind L) (spelled_by kind (both K L))
@@ -344,14 +400,14 @@ pub fn refusals_of_kind_are_true()
         misfit_of (format_of kind) X Y ≢ None → Under (format_of kind) X F → ¬ Under (format_of kind) Y F) }
 {}
 
-/// Each table has room for any parts, but for that of variation sequences, of which two parts may have the same selector
-/// and code: no join of two files is refused because a table has no room, but for that one. So no tree of joins of full
-/// or lean cuts meets such files.
+/// Each table has room for any parts, but for that of colours, which may be too many, and for that of variation sequences,
+/// of which two parts may have the same selector and code: no join of two files is refused because a table has no room,
+/// but for these. So no tree of joins of full or lean cuts meets such files.
 pub fn parts_always_fit()
-    ensures tagged { (kind : Kind) (slot : ℕ) → slot ≢ SEQUENCE_SLOT → (c : Tables) (frame : List ℕ)
+    ensures tagged { (kind : Kind) (slot : ℕ) → slot ≢ COLR → slot ≢ SEQUENCE_SLOT → (c : Tables) (frame : List ℕ)
         (parts : ℕ → List ℕ) → (partition_of kind slot).fits c frame parts ≡ true }
-    ensures sequences { (kind : Kind) (K : Content) → ((format_of kind).misfit K ≡ None)
-        ⊎ ((format_of kind).misfit K ≡ Some SEQUENCE_SLOT) }
+    ensures misfits { (kind : Kind) (K : Content) → ((format_of kind).misfit K ≡ None)
+        ⊎ ((format_of kind).misfit K ≡ Some COLR) ⊎ ((format_of kind).misfit K ≡ Some SEQUENCE_SLOT) }
     ensures unsequenced { (kind : Kind) → keeps_sequences kind ≡ false → AlwaysFits (partition_of kind)
         × ((K : Content) → (format_of kind).misfit K ≡ None)
         × ((t : JoinTree (List ℕ)) → ¬ Overflows (format_of kind) t) }
@@ -381,7 +437,8 @@ pub fn lean_cut_is_no_longer()
         length (cut (format_of Lean) file (of_codes codes)) ≤ length (cut our_format file (of_codes codes)) }
 {}
 
-/// A font without tables of variations, in whose tables of layout nothing varies, has its layout cut as its variable cut.
+/// A font without tables of variations, in whose tables of layout and of colours nothing varies, has its layout cut as its
+/// variable cut.
 pub fn variable_cut_of_unvarying()
     ensures { (file : List ℕ) → HasNothingVarying file → fault_of Variable file ≡ None → (fault_of Layout file ≡ None)
         × ((wanted : Wanted) → cut (format_of Variable) file wanted ≡ cut (format_of Layout) file wanted) }

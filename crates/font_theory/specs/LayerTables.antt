@@ -1,15 +1,9 @@
 -- Colour tables of version 0 (OpenType 1.9, COLR, Header; BaseGlyph and Layer records).
-use Rattle.std.specs.Prelude.{ℕ, nat_eq, nat_le, not, is_some, Bool, ◌&&◌, List, length, Option, None}
-use Rattle.sfnt_bytes.specs.Number.{u16_at}
-use Rattle.colour_tables.specs.LayerLists.{has_layer_lists, layers_at, layers_have_room}
+use Rattle.std.specs.Prelude.{not, is_some, List, Option, None}
+use Rattle.colour_tables.specs.LayerLists.{is_layer_table, layers_at, layers_have_room}
 use Rattle.colour_tables.specs.MadeLayers.{layer_table}
 use Rattle.colour_tables.specs.declared.layer.Layer.{Layer}
-use Rattle.colour_parts.specs.Ways.{Way}
-
--- a table of version 0 among n glyphs: it is there up to numLayerRecords, its lists are, and the layers have room
-unfoldable pub is_layer_table : ℕ → List ℕ → Bool
-is_layer_table n t =
-    nat_le 14 (length t) && nat_eq (u16_at t 0) 0 && has_layer_lists n t && layers_have_room n (layers_at t)
+use Rattle.font_theory.specs.Ways.{Way}
 
 -- it says of a glyph which layers it has, if it is a base glyph, and nothing else; so tables of version 0 are divided,
 -- and all others are their own frames

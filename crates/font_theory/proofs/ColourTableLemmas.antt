@@ -1,21 +1,22 @@
 -- Colour tables of both versions are divided.
-use Rattle.std.proofs.Common.{◌≡◌, ℕ, true, false, List, ap, ◌∙◌, arith}
+use Rattle.std.proofs.Common.{◌≡◌, ℕ, true, false, List, refl, ap, ◌∙◌, arith}
 use Rattle.std.proofs.Common.{inl, inr}
 use Rattle.std.proofs.lemmas.Bool.{and_parts, cases_Bool, cond-false, cond-true, eqb-true, false_from_ne_true}
 use Rattle.sfnt_bytes.specs.Number.{u16_at}
 use Rattle.colour_tables.specs.Laws.{IsStored}
 use Rattle.colour_tables.specs.Stores.{Store, no_store, store_of}
 use Rattle.font_theory.specs.Content.{glyph_count}
-use Rattle.colour_parts.specs.ColourTables.{colours, either_parting, varying_colours}
-use Rattle.colour_parts.specs.Laws.{ColourTablesAreDivided, DividesColours}
-use Rattle.colour_parts.specs.LayerTables.{is_layer_table, layer_way}
-use Rattle.colour_parts.specs.PaintTables.{is_paint_table, paint_way, still_way, varying_way}
-use Rattle.font_theory.specs.Parting.{Parting}
-use Rattle.colour_parts.specs.Ways.{IsWay, parting_by}
-use Rattle.colour_parts.proofs.LayerTableLemmas.{layer_tables_are, layer_way_is}
-use Rattle.colour_parts.proofs.PaintTableLemmas.{IsNone, IsSaid, paint_tables_are, still_way_is, varying_way_is}
-use Rattle.colour_parts.proofs.SideLemmas.{Side, both-sides}
-use Rattle.colour_parts.proofs.WayLemmas.{frame-is_divided, whole-is_divided}
+use Rattle.font_theory.specs.ColourTables.{DividesColours, colours, either_parting, varying_colours}
+use Rattle.colour_tables.specs.LayerLists.{is_layer_table}
+use Rattle.font_theory.specs.LayerTables.{layer_way}
+use Rattle.colour_tables.specs.PaintLists.{is_paint_table}
+use Rattle.font_theory.specs.PaintTables.{paint_way, still_way, varying_way}
+use Rattle.font_theory.specs.Parting.{Parting, Tables}
+use Rattle.font_theory.specs.Ways.{IsWay, parting_by}
+use Rattle.font_theory.proofs.LayerTableLemmas.{layer_tables_are, layer_way_is}
+use Rattle.font_theory.proofs.PaintTableLemmas.{IsNone, IsSaid, paint_tables_are, still_way_is, varying_way_is}
+use Rattle.font_theory.proofs.SideLemmas.{Side, both-sides}
+use Rattle.font_theory.proofs.WayLemmas.{frame-is_divided, whole-is_divided}
 
 -- a table has one version
 version_0 : (n : ℕ) (t : List ℕ) → is_layer_table n t ≡ true → u16_at t 0 ≡ 0
@@ -86,5 +87,15 @@ varying_colours_are =
     (one_side (parting_by varying_way)) (other_side store_of IsStored varying_way_is) layer_tables_are
     paint_tables_are.1
 
-pub colour_tables_are : ColourTablesAreDivided
+pub colour_tables_are : DividesColours colours × DividesColours varying_colours
 colour_tables_are = (still_colours_are, varying_colours_are)
+
+-- tables with what varies and without it have the same parts, which fit alike
+pub same-part : (c : Tables) (t : List ℕ) (g : ℕ) → colours.part c t g ≡ varying_colours.part c t g
+unfolding colours varying_colours either_parting parting_by still_way varying_way
+same-part c t g = refl
+
+pub same-fits : (c : Tables) (t : List ℕ) (parts : ℕ → List ℕ)
+    → colours.fits c t parts ≡ varying_colours.fits c t parts
+unfolding colours varying_colours either_parting parting_by still_way varying_way
+same-fits c t parts = refl

@@ -17,11 +17,12 @@ use Rattle.colour_tables.specs.declared.shape.Kind.{Kind}
 use Rattle.colour_tables.specs.declared.shape.Kind.TheVariants.{ClipBox, Paint}
 use Rattle.colour_tables.proofs.GlyphLemmas.{listed-same, sum-less, sum-same}
 use Rattle.colour_tables.proofs.PaintTableLemmas.{paints_back}
-use Rattle.colour_parts.specs.Laws.{PaintTablesAreDivided}
-use Rattle.colour_parts.specs.PaintTables.{is_paint_table, no_colour, paint_way, still_way, varying_way}
-use Rattle.colour_parts.specs.Ways.{IsWay, Says}
-use Rattle.colour_parts.proofs.LayerTableLemmas.{room_less, room_same}
-use Rattle.colour_parts.proofs.WayLemmas.{way_parts}
+use Rattle.font_theory.specs.ColourTables.{DividesColours}
+use Rattle.colour_tables.specs.PaintLists.{is_paint_table, no_colour}
+use Rattle.font_theory.specs.PaintTables.{paint_way, still_way, varying_way}
+use Rattle.font_theory.specs.Ways.{IsWay, Says, parting_by}
+use Rattle.font_theory.proofs.LayerTableLemmas.{room_less, room_same}
+use Rattle.font_theory.proofs.WayLemmas.{way_parts}
 
 -- what is known of what is said of a glyph
 abbrev pub IsSaid : ℕ → Colour → Type 0
@@ -177,6 +178,6 @@ varying_way_is = record {
   made = λ n w x is said room. made_says store_of n w x is (λ e. e) said room;
 }
 
-pub paint_tables_are : PaintTablesAreDivided
+pub paint_tables_are : DividesColours (parting_by still_way) × DividesColours (parting_by varying_way)
 paint_tables_are =
     (way_parts still_way IsNone IsSaid still_way_is, way_parts varying_way IsStored IsSaid varying_way_is)

@@ -5,8 +5,7 @@ use Rattle.std.proofs.Common.{inl, inr}
 use Rattle.std.proofs.lemmas.Bool.{cases_Bool, cases_eq, cond-false, cond-true, eq-eqb, ne_eqb}
 use Rattle.font_theory.specs.Content.{glyph_count}
 use Rattle.font_theory.specs.Parting.{Tables, IsParting}
-use Rattle.colour_parts.specs.Telling.{CutSays, IsPartOf, MakesOf, PartTells}
-use Rattle.colour_parts.specs.Ways.{IsWay, Says, Way, alone, parting_by, said_by}
+use Rattle.font_theory.specs.Ways.{CutSays, IsPartOf, IsWay, MakesOf, PartTells, Says, Way, alone, parting_by, said_by}
 
 module _ {W X : Type 0} (way : Way W X) (IsFront : W → Type 0) (IsSaid : ℕ → X → Type 0)
     (are : IsWay way IsFront IsSaid) where

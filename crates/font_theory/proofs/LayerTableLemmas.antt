@@ -11,10 +11,11 @@ use Rattle.colour_tables.specs.MadeLayers.{layer_header, layer_lists, layer_tabl
 use Rattle.colour_tables.specs.declared.layer.Layer.{Layer}
 use Rattle.colour_tables.proofs.GlyphLemmas.{listed-same, each-from, each-same, sum-less, sum-same}
 use Rattle.colour_tables.proofs.LayerReadLemmas.{read_back}
-use Rattle.colour_parts.specs.Laws.{LayerTablesAreDivided}
-use Rattle.colour_parts.specs.LayerTables.{is_layer_table, layer_way}
-use Rattle.colour_parts.specs.Ways.{IsWay}
-use Rattle.colour_parts.proofs.WayLemmas.{way_parts}
+use Rattle.font_theory.specs.ColourTables.{DividesColours}
+use Rattle.colour_tables.specs.LayerLists.{is_layer_table}
+use Rattle.font_theory.specs.LayerTables.{layer_way}
+use Rattle.font_theory.specs.Ways.{IsWay, parting_by}
+use Rattle.font_theory.proofs.WayLemmas.{way_parts}
 
 -- layers of glyphs
 abbrev Layers : Type 0
@@ -115,5 +116,5 @@ layer_way_is = record {
   };
 }
 
-pub layer_tables_are : LayerTablesAreDivided
+pub layer_tables_are : DividesColours (parting_by layer_way)
 layer_tables_are = way_parts layer_way (λ _. Unit {0}) (λ _ _. Unit {0}) layer_way_is

@@ -2,7 +2,7 @@
 -- nothing of any glyph, and the part of a glyph is one that says of this glyph what it says, and nothing of others.
 use Rattle.std.specs.Prelude.{◌≡◌, ℕ, ◌<◌, nat_eq, not, Bool, true, false, ◌&&◌, ◌⊎◌, List, [], if◌then◌else◌}
 use Rattle.font_theory.specs.Content.{glyph_count}
-use Rattle.font_theory.specs.Parting.{Parting}
+use Rattle.font_theory.specs.Parting.{Parting, Tables}
 
 -- a way to read and write tables that say something of glyphs, of which there are n
 pub record Way (W X : Type 0) : Type 0 where
@@ -63,3 +63,40 @@ pub record IsWay {W X : Type 0} (way : Way W X) (IsFront : W → Type 0) (IsSaid
   pub made :
       (n : ℕ) (w : W) (x : ℕ → X) → IsFront w → ((g : ℕ) → IsSaid n (x g)) → way.room n x ≡ true
       → Says way n w x (way.made n w x)
+
+-- the parts of a table for the glyphs that are kept
+abbrev pub kept_parts : Parting → Tables → List ℕ → (ℕ → Bool) → ℕ → List ℕ
+kept_parts D c t keeps g = if keeps g then D.part c t g else []
+
+-- the table of the frame of a table and of the parts of kept glyphs says of these what the table says, and nothing of
+-- others; so the table of all parts says all that the table says
+abbrev pub CutSays : {W X : Type 0} → Way W X → Type 0
+CutSays way =
+    (c : Tables) (t : List ℕ) (keeps : ℕ → Bool) → way.divided (glyph_count c) t ≡ true
+    → Says way (glyph_count c) (way.front t) (λ g. if keeps g then way.said (glyph_count c) t g else way.nothing)
+    ((parting_by way).whole c ((parting_by way).frame c t) (kept_parts (parting_by way) c t keeps))
+
+-- two tables say the same of a glyph if they have one part of it
+abbrev pub PartTells : {W X : Type 0} → Way W X → Type 0
+PartTells way =
+    (c : Tables) (t u : List ℕ) (g : ℕ) → way.divided (glyph_count c) t ≡ true → way.divided (glyph_count c) u ≡ true
+    → g < glyph_count c → (parting_by way).part c t g ≡ (parting_by way).part c u g
+    → way.said (glyph_count c) t g ≡ way.said (glyph_count c) u g
+
+-- bytes are the part of a glyph of some table that says x of it, or there are none, and nothing is said
+abbrev pub IsPartOf : {W X : Type 0} → Way W X → Tables → ℕ → X → List ℕ → Type 0
+IsPartOf way c g x b =
+    ((b ≡ []) × (x ≡ way.nothing))
+    ⊎ ((u : List ℕ) × (way.divided (glyph_count c) u ≡ true) × ((parting_by way).part c u g ≡ b)
+    × (way.said (glyph_count c) u g ≡ x))
+
+-- parts that come of tables fit where what these say has room, and their table is made of it
+pub record IsMadeOf {W X : Type 0} (way : Way W X) (c : Tables) (t : List ℕ) (parts : ℕ → List ℕ) (x : ℕ → X) : Type 0
+  where
+    pub fits : (parting_by way).fits c t parts ≡ way.room (glyph_count c) x
+    pub whole : (parting_by way).whole c t parts ≡ way.made (glyph_count c) (way.front t) x
+
+abbrev pub MakesOf : {W X : Type 0} → Way W X → Type 0
+MakesOf {W} {X} way =
+    (c : Tables) (t : List ℕ) (parts : ℕ → List ℕ) (x : ℕ → X) → way.divided (glyph_count c) t ≡ true
+    → ((g : ℕ) → g < glyph_count c → IsPartOf way c g (x g) (parts g)) → IsMadeOf way c t parts x
