@@ -1,7 +1,7 @@
 -- The worklist of links.
 use Rattle.std.proofs.Common.{◌≡◌, ℕ, ◌+◌, ◌<◌, ◌≤◌, ◌⊎◌, ◌↔◌, Bool, true, false, not, cond, suc, List, [], ◌∷◌, ◌++◌}
 use Rattle.std.proofs.Common.{drop}
-use Rattle.std.proofs.Common.{get_or, length, set, sym, ap, subst, ◌∙◌, arith, inl, inr}
+use Rattle.std.proofs.Common.{get_or, length, set, refl, sym, ap, subst, ◌∙◌, arith, inl, inr}
 use Rattle.std.specs.List.{All, AllByRecursion, Contains, count_by}
 use Rattle.std.proofs.lemmas.List.{drop_more, length-set, length_push}
 use Rattle.std.proofs.lemmas.List.Elements.{All-from_recursion, All-nil, All-pop, All-contains, Contains-push_cases}
@@ -68,6 +68,46 @@ module _ (n : ℕ) (links : List ℕ) (k : ℕ) (m all : List Bool) (w end : Lis
 pub below_all : (n : ℕ) (b : List ℕ) → ((i : ℕ) → get_or b i 0 < n) → AllByRecursion (λ h. h < n) b
 below_all n [] f = tt
 below_all n (x ∷ b) f = (f 0, below_all n b (λ i. f (suc i)))
+
+-- two visits, one after the other
+pub marks_after-append : (xs ys : List ℕ) (m : List Bool) → marks_after (xs ++ ys) m ≡ marks_after ys (marks_after xs m)
+marks_after-append [] ys m = refl
+marks_after-append (x ∷ xs) ys m = marks_after-append xs ys (set m x true)
+
+work_by : (b : Bool) (x : ℕ) (xs ys : List ℕ) (m : List Bool) (w : List ℕ)
+    → (m ≡ set m x true) ⊎ (b ≡ false)
+    → ((n : List Bool) (v : List ℕ) → work_after (xs ++ ys) n v ≡ work_after ys (marks_after xs n) (work_after xs n v))
+    → cond b (work_after (xs ++ ys) m w) (work_after (xs ++ ys) (set m x true) (w ++ x ∷ []))
+    ≡ work_after ys (marks_after xs (set m x true)) (cond b (work_after xs m w) (work_after xs (set m x true) (w ++ x ∷ [])))
+work_by true x xs ys m w (inl same) again =
+    again m w ∙ ap (λ (t : List Bool). work_after ys (marks_after xs t) (work_after xs m w)) same
+work_by true x xs ys m w (inr other) again = cc
+work_by false x xs ys m w h again = again (set m x true) (w ++ x ∷ [])
+
+marked_or : (m : List Bool) (x : ℕ) (b : Bool) → has m x ≡ b → (m ≡ set m x true) ⊎ (b ≡ false)
+marked_or m x true e = inl (sym (set-marked m x e))
+marked_or m x false e = inr refl
+
+pub work_after-append : (xs ys : List ℕ) (m : List Bool) (w : List ℕ)
+    → work_after (xs ++ ys) m w ≡ work_after ys (marks_after xs m) (work_after xs m w)
+work_after-append [] ys m w = refl
+work_after-append (x ∷ xs) ys m w =
+    work_by (has m x) x xs ys m w (marked_or m x (has m x) refl) (work_after-append xs ys)
+
+pub below_both : (n : ℕ) (xs ys : List ℕ) → AllByRecursion (λ h. h < n) xs → AllByRecursion (λ h. h < n) ys
+    → AllByRecursion (λ h. h < n) (xs ++ ys)
+below_both n [] ys a b = b
+below_both n (x ∷ xs) ys a b = (a.0, below_both n xs ys a.1 b)
+
+-- there is room for the second visit
+pub room_left : (n : ℕ) (xs : List ℕ) (m t : List Bool) (w v : List ℕ) → length m ≡ n
+    → count_by not m + length w ≤ n → AllByRecursion (λ h. h < n) xs → t ≡ marks_after xs m → v ≡ work_after xs m w
+    → (length t ≡ n) × (count_by not t + length v ≤ n)
+room_left n xs m t w v long room low marks work =
+    let kept = work_count xs m w n (sym long) low in
+    let same_marks : count_by not t ≡ count_by not (marks_after xs m) = ap (count_by not) marks in
+    let same_work : length v ≡ length (work_after xs m w) = ap length work in
+    (ap length marks ∙ length-marks_after xs m ∙ long, omega arith)
 
 -- the marks and the work on the way, where l has the links, n is the number of numbers and s the seeds
 pub record Following (l : ℕ → List ℕ) (n : ℕ) (s m : List Bool) (w : List ℕ) : Type 0 where

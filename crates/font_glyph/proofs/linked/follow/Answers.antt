@@ -1,4 +1,4 @@
-use Rattle.std.proofs.Common.{rules, arith, length, not, ◌≡◌, ◌<◌, ℕ, ◌∙◌, Bool, List, ap, sym, subst, true}
+use Rattle.std.proofs.Common.{rules, arith, length, not, ◌≡◌, ◌<◌, ℕ, ◌∙◌, ◌++◌, Bool, List, ap, sym, subst, true}
 use Rattle.std.specs.List.{All, Contains}
 use Rattle.std.proofs.lemmas.List.Elements.{All-weaker}
 use Rattle.std.proofs.lemmas.List.{length_push, nil_from_length}
@@ -35,8 +35,8 @@ visit_links-requires-clause-room g c =
       ap length c.new-work.ensures.items,
     )
 
-pub visit_links-requires-in-Some-clause-room : goal.visit_links-requires-in-Some-clause-room
-visit_links-requires-in-Some-clause-room g c =
+pub visit_lists-requires-clause-room : goal.visit_lists-requires-clause-room
+visit_lists-requires-clause-room g c =
     omega (
       arith,
       c.loop-g.invariant.room,
@@ -46,18 +46,18 @@ visit_links-requires-in-Some-clause-room g c =
 
 pub loop-g-smaller : goal.loop-g-smaller
 loop-g-smaller g c =
-    following_smaller NUMBERS c.loop-g.marks c.visit_links-in-Some.new.marks c.loop-g.work.items c.pop.new.self.items
-    c.visit_links-in-Some.new.work.items c.of.result.now c.in-Some.g c.loop-g.invariant.length
-    c.in-Some.ensures.items c.in_ok-visit_links-2.ensures.below c.in_ok-visit_links-2.ensures.marks
-    c.in_ok-visit_links-2.ensures.work
+    following_smaller NUMBERS c.loop-g.marks c.visit_lists.new.marks c.loop-g.work.items c.pop.new.self.items
+    c.visit_lists.new.work.items (c.of-lists.result.first.now ++ c.of-lists.result.second.now) c.in-Some.g c.loop-g.invariant.length
+    c.in-Some.ensures.items c.in_ok-visit_lists.ensures.below c.in_ok-visit_lists.ensures.marks
+    c.in_ok-visit_lists.ensures.work
 
 pub loop-g-preserved : goal.loop-g-preserved
 loop-g-preserved g c =
     following_visit (g.L.Links.links_at c.args.links.now) NUMBERS c.args.seeds.now c.loop-g.marks
-    c.visit_links-in-Some.new.marks c.loop-g.work.items c.pop.new.self.items c.visit_links-in-Some.new.work.items
-    c.of.result.now c.in-Some.g
-    c.loop-g.invariant c.in-Some.ensures.items c.of.ensures c.in_ok-visit_links-2.ensures.below
-    c.in_ok-visit_links-2.ensures.marks c.in_ok-visit_links-2.ensures.work
+    c.visit_lists.new.marks c.loop-g.work.items c.pop.new.self.items c.visit_lists.new.work.items
+    (c.of-lists.result.first.now ++ c.of-lists.result.second.now) c.in-Some.g
+    c.loop-g.invariant c.in-Some.ensures.items c.of-lists.ensures c.in_ok-visit_lists.ensures.below
+    c.in_ok-visit_lists.ensures.marks c.in_ok-visit_lists.ensures.work
 
 pub returns-clause-linked : goal.returns-clause-linked
 returns-clause-linked g c = λ h.
