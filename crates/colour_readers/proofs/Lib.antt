@@ -1,0 +1,12 @@
+pub mod FieldLemmas
+pub mod LayerListLemmas
+pub mod PickLemmas
+pub mod RoomLemmas
+pub mod ShapeLemmas
+pub mod TreeLemmas
+pub mod PaintListLemmas
+pub mod RowLemmas
+pub mod TableLemmas
+pub mod SameLemmas
+pub mod SubtreeLemmas
+pub mod TableTreeLemmas

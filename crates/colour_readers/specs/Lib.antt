@@ -1,0 +1,4 @@
+pub mod Rooms
+pub mod Trees
+pub mod RowsOf
+pub mod Subtrees
