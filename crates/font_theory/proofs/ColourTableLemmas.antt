@@ -40,7 +40,7 @@ other_stays n t u same stay is = elim (cases_Bool (is_paint_table n t)) [
   | inr d ↦ ap (is_layer_table n) (stay d) ∙ is
 ]
 
-one_side : (other : Parting) → Side is_layer_table true (either_parting is_layer_table (parting_by layer_way) other)
+pub one_side : (other : Parting) → Side is_layer_table true (either_parting is_layer_table (parting_by layer_way) other)
     (parting_by layer_way)
 unfolding either_parting parting_by layer_way
 one_side other = record {
@@ -54,7 +54,7 @@ one_side other = record {
 }
 
 -- the other side, whatever is kept of what varies
-other_side : (front : List ℕ → Store) (IsFront : Store → Type 0) → IsWay (paint_way front) IsFront IsSaid
+pub other_side : (front : List ℕ → Store) (IsFront : Store → Type 0) → IsWay (paint_way front) IsFront IsSaid
     → Side is_layer_table false
     (either_parting is_layer_table (parting_by layer_way) (parting_by (paint_way front)))
     (parting_by (paint_way front))

@@ -1,12 +1,14 @@
 -- Divided fonts and contents, and what they are written as.
 use Rattle.std.proofs.Common.{◌≡◌, ℕ, ◌<◌, ◌≤◌, Bool, true, false, cond, nat_lt, ◌&&◌, ◌⊎◌, inl, inr, List, [], ◌∷◌}
-use Rattle.std.proofs.Common.{refl, ◌≢◌, sym, arith, ◌∙◌, ap, subst, is_some, Option, Some, None, not}
+use Rattle.std.proofs.Common.{refl, ◌≢◌, find, sym, arith, ◌∙◌, ap, subst, is_some, Option, Some, None, not}
+use Rattle.std.specs.List.{range_with_len}
 use Rattle.std.specs.Option.{option_map, option_map_or}
 use Rattle.std.proofs.Math.Path.{fun_ext}
 use Rattle.std.proofs.lemmas.Bool.{cases_Bool, cases_eq, cases_lt, lt-ltb, not-false, or_right}
+use Rattle.sfnt_bytes.specs.Directory.{slot_at}
 use Rattle.sfnt_bytes.specs.Lines.{first_of_lines, when}
 use Rattle.sfnt_bytes.proofs.LineLemmas.{first_of_lines-none_at, when-none}
-use Rattle.sfnt_bytes.specs.declared.tag.TheConstants.{ALL_SLOTS}
+use Rattle.sfnt_bytes.specs.declared.tag.TheConstants.{ALL_SLOTS, COLR}
 use Rattle.font_glyph.specs.RecordMap.{record_in}
 use Rattle.font_theory.specs.Bytes.{padded}
 use Rattle.font_theory.specs.Content.{Content, Font, IsClosedContent, IsFont, Wanted, content, everything, glyph_count}
@@ -78,38 +80,53 @@ misfit-always p always K = none-misfit p K (λ slot. go slot (K.copied slot))
     go slot None = refl
     go slot (Some t) = always slot (context K.copied) t (K.parts slot)
 
--- where those in the tables of tags do, none is named but that of sequences
-pub misfit-sequences : (p : Partition)
-    → ((slot : ℕ) → slot ≢ SEQUENCES → (c : Tables) (frame : List ℕ) (parts : ℕ → List ℕ)
+-- the first slot that passes a test that no other passes
+first_slot-colr : (test : ℕ → Bool) → ((slot : ℕ) → slot < ALL_SLOTS → slot ≢ COLR → test slot ≡ false)
+    → first_slot test ≡ when (test COLR) COLR
+unfolding slot_at
+first_slot-colr test fails = elim (cases_Bool (test COLR)) [
+  | inl t ↦
+      (λ i. option_map slot_at (cond (fails 16 (omega arith) (λ e. omega (arith, e)) i) (Some 0)
+      (cond (t i) (Some 1) (find (λ place. test (slot_at place)) (range_with_len 2 29)))))
+      ∙ sym (ap (λ b. when b COLR) t)
+  | inr f ↦
+      no_slot_below test (λ slot low. elim (cases_eq slot COLR) [
+        | inl e ↦ ap test e ∙ f
+        | inr other ↦ fails slot low other
+      ])
+      ∙ sym (ap (λ b. when b COLR) f)
+]
+
+-- where those in other tables do, none is named but that of colours and that of sequences
+pub misfit-others : (p : Partition)
+    → ((slot : ℕ) → slot ≢ COLR → slot ≢ SEQUENCES → (c : Tables) (frame : List ℕ) (parts : ℕ → List ℕ)
     → (p slot).fits c frame parts ≡ true) → (K : Content)
-    → misfit_by p K ≡ when (not (fits_at p K.copied K.parts SEQUENCES)) SEQUENCES
+    → misfit_by p K ≡ first_of_lines
+    (when (not (fits_at p K.copied K.parts COLR)) COLR
+    ∷ when (not (fits_at p K.copied K.parts SEQUENCES)) SEQUENCES ∷ [])
 unfolding misfit_by fits_at
-misfit-sequences p always K =
-    (λ i. first_of_lines (lines_of (tags i) (fits_at p K.copied K.parts SEQUENCES)))
-    ∙ last (when (not (fits_at p K.copied K.parts SEQUENCES)) SEQUENCES)
+misfit-others p always K =
+    ap (λ (o : Option ℕ). first_of_lines (lines_of o (fits_at p K.copied K.parts SEQUENCES)))
+    (first_slot-colr (λ s. not (fits_at p K.copied K.parts s))
+    (λ s low bare. ap not (go s bare (λ e. omega (arith, e, low)) (K.copied s))))
   where
-    go : (slot : ℕ) → slot ≢ SEQUENCES → (o : Option (List ℕ))
+    go : (slot : ℕ) → slot ≢ COLR → slot ≢ SEQUENCES → (o : Option (List ℕ))
         → option_map_or (λ t. (p slot).fits (context K.copied) t (K.parts slot)) o true ≡ true
-    go slot other None = refl
-    go slot other (Some t) = always slot other (context K.copied) t (K.parts slot)
+    go slot bare other None = refl
+    go slot bare other (Some t) = always slot bare other (context K.copied) t (K.parts slot)
 
-    tags : first_slot (λ s. not (fits_at p K.copied K.parts s)) ≡ None
-    tags = no_slot_below (λ s. not (fits_at p K.copied K.parts s))
-        (λ s low. ap not (go s (λ e. omega (arith, e, low)) (K.copied s)))
-
-    last : (o : Option ℕ) → first_of_lines (None ∷ o ∷ []) ≡ o
-    last None = refl
-    last (Some slot) = refl
-
-pub misfit-tagged : (p : Partition) →
-    ((slot : ℕ) → slot ≢ SEQUENCES → (c : Tables) (frame : List ℕ) (parts : ℕ → List ℕ)
-    → (p slot).fits c frame parts ≡ true) → (K : Content) → (misfit_by p K ≡ None) ⊎ (misfit_by p K ≡ Some SEQUENCES)
-misfit-tagged p always K = go (fits_at p K.copied K.parts SEQUENCES) (misfit-sequences p always K)
+pub misfit-told : (p : Partition) →
+    ((slot : ℕ) → slot ≢ COLR → slot ≢ SEQUENCES → (c : Tables) (frame : List ℕ) (parts : ℕ → List ℕ)
+    → (p slot).fits c frame parts ≡ true) → (K : Content)
+    → (misfit_by p K ≡ None) ⊎ (misfit_by p K ≡ Some COLR) ⊎ (misfit_by p K ≡ Some SEQUENCES)
+misfit-told p always K =
+    go (fits_at p K.copied K.parts COLR) (fits_at p K.copied K.parts SEQUENCES) (misfit-others p always K)
   where
-    go : (room : Bool) → misfit_by p K ≡ when (not room) SEQUENCES
-        → (misfit_by p K ≡ None) ⊎ (misfit_by p K ≡ Some SEQUENCES)
-    go true e = inl e
-    go false e = inr e
+    go : (colour room : Bool) → misfit_by p K ≡ first_of_lines (when (not colour) COLR ∷ when (not room) SEQUENCES ∷ [])
+        → (misfit_by p K ≡ None) ⊎ (misfit_by p K ≡ Some COLR) ⊎ (misfit_by p K ≡ Some SEQUENCES)
+    go true true e = inl e
+    go true false e = inr (inr e)
+    go false room e = inr (inl e)
 
 low-context : (c : Tables) (g : ℕ) → g < glyph_count c → g < glyph_count (context c)
 unfolding context glyph_count

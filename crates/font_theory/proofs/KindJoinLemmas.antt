@@ -10,11 +10,16 @@ use Rattle.std.proofs.lemmas.Bool.{cases_eq, ne_eqb, cases_Bool, cases_lt, lt-lt
 use Rattle.std.proofs.lemmas.List.{ext_get_or}
 use Rattle.std.proofs.lemmas.List.FromFn.{get_or-map-range_with_len, length-map-range_with_len}
 use Rattle.sfnt_bytes.specs.Lines.{when}
-use Rattle.sfnt_bytes.specs.declared.tag.TheConstants.{GVAR, HHEA, HMTX, POST, VHEA, VMTX}
+use Rattle.sfnt_bytes.specs.declared.tag.TheConstants.{COLR, GVAR, HHEA, HMTX, POST, VHEA, VMTX}
 use Rattle.font_variations.specs.Gvar.{front_of, shared_tuples_of}
 use Rattle.font_variations.specs.MadeGvar.{data_at, gvar_bytes, offset_bytes, tuples_at, u16_bytes, u32_bytes}
 use Rattle.font_variations.proofs.LawLemmas.{listed_same}
+use Rattle.colour_tables.specs.PaintLists.{Colour, is_paint_table}
+use Rattle.colour_tables.specs.Stores.{Store, no_store, store_of}
 use Rattle.font_theory.specs.Bytes.{padded}
+use Rattle.font_theory.specs.ColourTables.{colours, colr_with, glyph_colour, said_colour, varying_colours}
+use Rattle.font_theory.proofs.ColourWordLemmas.{IsColourPart, IsColours, colr-fronts, still-colours, still-stored}
+use Rattle.font_theory.proofs.ColourWordLemmas.{varying-colours}
 use Rattle.font_theory.specs.Agreement.{Agree, both}
 use Rattle.font_theory.specs.Content.{Content, Font, IsClosedContent, IsFont, content, everything, glyph_count}
 use Rattle.font_theory.specs.Content.{is_kept, read_back, table_in_slot}
@@ -40,8 +45,8 @@ use Rattle.std.proofs.lemmas.Slice.Eq.{bytes_eq-Decides}
 use Rattle.font_theory.proofs.EntryLemmas.{get_or-laid, length-laid}
 use Rattle.font_theory.proofs.HeldLemmas.{cases_option, parts-none}
 use Rattle.font_theory.proofs.KindLemmas.{DividesAs}
-use Rattle.font_theory.proofs.PartLemmas.{context-alike, fits-here, frames-other, glyph_count-alike, good-font}
-use Rattle.font_theory.proofs.PartLemmas.{map_map, wholes-other, wholes-undivided}
+use Rattle.font_theory.proofs.PartLemmas.{context-alike, fits-here, frames-other, frames-wholes, glyph_count-alike}
+use Rattle.font_theory.proofs.PartLemmas.{good-font, map_map, parts_of-at, wholes-other, wholes-undivided}
 use Rattle.font_theory.proofs.PartedLemmas.{gvar_with-again}
 use Rattle.font_theory.proofs.WordLemmas.{map_alike, part-data}
 use Rattle.font_theory.specs.declared.kinds.TheConstants.{SEQUENCES}
@@ -290,8 +295,8 @@ module _ (p : Partition) (is : IsPartition p) (K L : Content) (okK : IsClosedCon
   no_parts = refl
 
   other_table : (p POST ≡ undivided) ⊎ (p POST ≡ nameless) → (slot : ℕ) → slot ≢ GVAR → slot ≢ HMTX → slot ≢ VMTX
-      → slot ≢ SEQUENCES → wU slot ≡ wK slot
-  other_table how slot a b d n =
+      → slot ≢ COLR → slot ≢ SEQUENCES → wU slot ≡ wK slot
+  other_table how slot a b d m n =
       elim (cases_eq slot POST) [
         | inl e ↦ subst (λ (x : ℕ). wU x ≡ wK x) (sym e) (elim how [
           | inl u ↦ wholes-undivided p c POST u U.parts ∙ sym (wholes-undivided p c POST u K.parts)
@@ -303,6 +308,7 @@ module _ (p : Partition) (is : IsPartition p) (K L : Content) (okK : IsClosedCon
               ne_eqb slot HMTX b,
               ne_eqb slot POST f,
               ne_eqb slot VMTX d,
+              ne_eqb slot COLR m,
               ne_eqb slot SEQUENCES n,
             ) refl in
             wholes-other p is c U.parts slot whole ∙ sym (wholes-other p is c K.parts slot whole)
@@ -350,6 +356,135 @@ module _ (p : Partition) (is : IsPartition p) (K L : Content) (okK : IsClosedCon
       ∙ ap (λ f. f t) (gvar_with-same own data_of_either n
       (λ g low. (λ i. cond (is_some (K.outline g)) (data_K e g low i) (data_L e g low i)))))
 
+  -- the colours of both
+  abbrev colour_of_either : ℕ → Colour
+  colour_of_either g = cond (is_some (K.outline g)) (glyph_colour wK g) (glyph_colour wL g)
+
+  count_in : glyph_count (context wK) ≡ glyph_count wK
+  unfolding context glyph_count
+  count_in = refl
+
+  around_L : context wL ≡ context wK
+  around_L = context-alike L.copied wL (wholes-other p is L.copied L.parts) ∙ ap context same_tables
+      ∙ sym (context-alike c wK (wholes-other p is c K.parts))
+
+  -- the tables of both have one frame
+  same_frame : (slot : ℕ) → frames p wL slot ≡ frames p wK slot
+  same_frame slot =
+      ap (λ (d : Tables). d slot) (frames-wholes p is (read_back L) okL.font L.parts divL.fit)
+      ∙ ap (λ (d : Tables). frames p d slot) same_tables
+      ∙ sym (ap (λ (d : Tables). d slot) (frames-wholes p is (read_back K) okK.font K.parts divK.fit))
+
+  some_in : (slot : ℕ) (t : List ℕ) → wK slot ≡ Some t
+      → (u : List ℕ) × (wL slot ≡ Some u) × ((p slot).frame (context wK) u ≡ (p slot).frame (context wK) t)
+  unfolding frames
+  some_in slot t here = go (wL slot) refl
+    where
+      both_frames : option_map ((p slot).frame (context wK)) (wL slot) ≡ Some ((p slot).frame (context wK) t)
+      both_frames =
+          (λ i. option_map ((p slot).frame (sym around_L i)) (wL slot)) ∙ same_frame slot
+          ∙ ap (option_map ((p slot).frame (context wK))) here
+
+      go : (o : Option (List ℕ)) → wL slot ≡ o
+          → (u : List ℕ) × (wL slot ≡ Some u) × ((p slot).frame (context wK) u ≡ (p slot).frame (context wK) t)
+      go None e =
+          absurd (let q : None ≡ Some ((p slot).frame (context wK) t) =
+          sym (ap (option_map ((p slot).frame (context wK))) e) ∙ both_frames in let no : ⊥ = cc in no)
+      go (Some u) e =
+          let same : Some ((p slot).frame (context wK) u) ≡ Some ((p slot).frame (context wK) t) =
+          sym (ap (option_map ((p slot).frame (context wK))) e) ∙ both_frames in
+          (u, e, cc)
+
+  said_in : (d : Tables) (t : List ℕ) (g : ℕ) → d COLR ≡ Some t → glyph_colour d g ≡ said_colour (glyph_count d) t g
+  unfolding glyph_colour
+  said_in d t g here = ap (λ o. said_colour (glyph_count d) (unwrap_or o []) g) here
+
+  -- the part of a glyph in a divided table
+  part_in : (d : Tables) (t : List ℕ) (g : ℕ) → context d ≡ context wK → d COLR ≡ Some t → g < glyph_count d
+      → parts_of p d COLR g ≡ (p COLR).part (context wK) t g
+  part_in d t g around here low =
+      parts_of-at p d COLR g t low here ∙ ap (λ (x : Tables). (p COLR).part x t g) around
+
+  colours_made : (front : List ℕ → Store) → IsColours (p COLR) front
+      → ((t : List ℕ) → wK COLR ≡ Some t → is_paint_table (glyph_count wK) t ≡ true → front t ≡ store_of t)
+      → wU COLR ≡ option_map (colr_with store_of colour_of_either (glyph_count wK)) (wK COLR)
+  colours_made front are stored =
+      either_parts COLR
+      ∙ map_alike (λ t. (p COLR).whole (context wK) ((p COLR).frame (context wK) t) own)
+      (colr_with store_of colour_of_either (glyph_count wK)) (wK COLR)
+      (λ t here.
+      are.made (context wK) t own colour_of_either (λ g low. of_glyph t here g low)
+      ∙ ap (λ (n : ℕ). colr_with front colour_of_either n t) count_in
+      ∙ colr-fronts front store_of colour_of_either (glyph_count wK) t (stored t here))
+    where
+      own : ℕ → List ℕ
+      own g = cond (is_some (K.outline g)) (parts_of p wK COLR g) (parts_of p wL COLR g)
+
+      of_glyph : (t : List ℕ) → wK COLR ≡ Some t → (g : ℕ) → g < glyph_count (context wK)
+          → IsColourPart (p COLR) (context wK) t g (colour_of_either g) (own g)
+      of_glyph t here g low = by_test (is_some (K.outline g))
+        where
+          below : g < glyph_count wK
+          below = subst (λ (n : ℕ). g < n) count_in low
+
+          below_L : g < glyph_count wL
+          below_L = subst (λ (n : ℕ). g < n) (count_K ∙ sym count_L) below
+
+          by_test : (b : Bool) → IsColourPart (p COLR) (context wK) t g
+              (cond b (glyph_colour wK g) (glyph_colour wL g)) (cond b (parts_of p wK COLR g) (parts_of p wL COLR g))
+          by_test true = inr (
+            t,
+            refl,
+            sym (part_in wK t g refl here below),
+            ap (λ (n : ℕ). said_colour n t g) count_in ∙ sym (said_in wK t g here),
+          )
+          by_test false =
+              let w = some_in COLR t here in inr (
+                w.0,
+                w.2,
+                sym (part_in wL w.0 g around_L w.1 below_L),
+                ap (λ (n : ℕ). said_colour n w.0 g) (count_in ∙ count_K ∙ sym count_L) ∙ sym (said_in wL w.0 g w.1),
+              )
+
+  counted : glyph_count (context c) ≡ glyph_count wK
+  unfolding context glyph_count
+  counted = sym count_K
+
+  -- a table without what varies has no store
+  still_in : (p COLR ≡ colours) → (t : List ℕ) → wK COLR ≡ Some t → is_paint_table (glyph_count wK) t ≡ true
+      → no_store ≡ store_of t
+  unfolding wholes
+  still_in e t here paint = go (c COLR) refl
+    where
+      go : (o : Option (List ℕ)) → c COLR ≡ o → no_store ≡ store_of t
+      go None x =
+          absurd (let q : None ≡ Some t =
+          sym (ap (option_map (λ f. (p COLR).whole (context c) f (K.parts COLR))) x) ∙ here in let no : ⊥ = cc in no)
+      go (Some f) x =
+          let same : Some (colours.whole (context c) f (K.parts COLR)) ≡ Some t =
+          sym (λ i. option_map (λ f. (e i).whole (context c) f (K.parts COLR)) (x i)) ∙ here in
+          let is_t : colours.whole (context c) f (K.parts COLR) ≡ t = cc in
+          let fit : colours.fits (context c) f (K.parts COLR) ≡ true =
+          sym (ap (λ (D : Parting). D.fits (context c) f (K.parts COLR)) e)
+          ∙ fits-here p c K.parts COLR f x (divK.fit COLR) in
+          sym (ap store_of (sym is_t)
+          ∙ still-stored (context c) f (K.parts COLR) fit
+          ((λ i. is_paint_table (counted i) (is_t i)) ∙ paint))
+
+  colours_either : ((p COLR ≡ colours) ⊎ (p COLR ≡ varying_colours)) ⊎ (c COLR ≡ None)
+      → wU COLR ≡ option_map (colr_with store_of colour_of_either (glyph_count wK)) (wK COLR)
+  colours_either (inl (inl e)) =
+      colours_made (λ _. no_store) (subst (λ (D : Parting). IsColours D (λ _. no_store)) (sym e) still-colours)
+      (still_in e)
+  colours_either (inl (inr e)) =
+      colours_made store_of (subst (λ (D : Parting). IsColours D store_of) (sym e) varying-colours) (λ t here d. refl)
+  colours_either (inr none) =
+      nothing U.parts ∙ sym (ap (option_map (colr_with store_of colour_of_either (glyph_count wK))) (nothing K.parts))
+    where
+      nothing : (parts : ℕ → ℕ → List ℕ) → wholes p c parts COLR ≡ None
+      nothing parts = wholes-slot p COLR (p COLR) refl c parts
+          ∙ ap (option_map (λ f. (p COLR).whole (context c) f (parts COLR))) none
+
   -- the sequences of both
   abbrev pairs_of_either : ℕ → List ℕ
   pairs_of_either g = cond (is_some (K.outline g)) (pairs_of_glyph wK g) (pairs_of_glyph wL g)
@@ -382,9 +517,10 @@ module _ (p : Partition) (is : IsPartition p) (K L : Content) (okK : IsClosedCon
 
   pub union-written : (p GVAR ≡ variations) ⊎ (c GVAR ≡ None) → (p HMTX ≡ undivided) ⊎ (p HMTX ≡ metrics HHEA)
       → (p POST ≡ undivided) ⊎ (p POST ≡ nameless) → (p VMTX ≡ undivided) ⊎ (p VMTX ≡ metrics VHEA)
+      → ((p COLR ≡ colours) ⊎ (p COLR ≡ varying_colours)) ⊎ (c COLR ≡ None)
       → (p SEQUENCES ≡ sequences) ⊎ (c SEQUENCES ≡ None)
       → IsWrittenUnion (undivided_content p K) (undivided_content p L) (undivided_content p U)
-  union-written gvar hmtx post vmtx pairs = record {
+  union-written gvar hmtx post vmtx colr pairs = record {
     head = refl;
     map = refl;
     outline = refl;
@@ -392,6 +528,7 @@ module _ (p : Partition) (is : IsPartition p) (K L : Content) (okK : IsClosedCon
     hmtx = either_table HMTX HHEA hmtx;
     vmtx = either_table VMTX VHEA vmtx;
     gvar = gvar_either gvar;
+    colours = colours_either colr;
     sequences = sequences_either pairs;
   }
 
@@ -438,6 +575,13 @@ module _ (s : Settings) (is : AreSettings s) (how : DividesAs s) where
     | inr e ↦ inr (sym (AreRead-by s is K k GVAR) ∙ ap (λ r. read_by r GVAR (K.copied GVAR)) e)
   ]
 
+  no_colours : (K : Content) → Arises R K
+      → ((p COLR ≡ colours) ⊎ (p COLR ≡ varying_colours)) ⊎ (K.copied COLR ≡ None)
+  no_colours K k = elim how.colours [
+    | inl e ↦ inl e
+    | inr e ↦ inr (sym (AreRead-by s is K k COLR) ∙ ap (λ r. read_by r COLR (K.copied COLR)) e)
+  ]
+
   no_sequences : (K : Content) → Arises R K → (p SEQUENCES ≡ sequences) ⊎ (K.copied SEQUENCES ≡ None)
   no_sequences K k = elim how.sequences [
     | inl e ↦ inl e
@@ -451,7 +595,7 @@ module _ (s : Settings) (is : AreSettings s) (how : DividesAs s) where
       let divK = IsDivided-by s is K k in let divL = IsDivided-by s is L l in (
         union-by p is.partition K L (closed K k) (closed L l) divK divL agree,
         union-written p is.partition K L (closed K k) (closed L l) divK divL agree (no_gvar K k) how.hmtx how.post
-            how.vmtx (no_sequences K k),
+            how.vmtx (no_colours K k) (no_sequences K k),
       )
 
   -- a join has what the two files have

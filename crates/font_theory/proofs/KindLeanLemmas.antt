@@ -1,7 +1,7 @@
 -- Lean cuts beside cuts of other kinds, and layout cuts beside variable ones.
-use Rattle.std.proofs.Common.{◌≡◌, ℕ, zero, suc, ◌+◌, ◌-◌, ◌%◌, ◌<◌, ◌≤◌, ◌&&◌, Bool, true, false, cond, nat_lt, ◌⊎◌}
+use Rattle.std.proofs.Common.{◌≡◌, ℕ, zero, suc, ◌+◌, ◌-◌, ◌%◌, ◌<◌, ◌≤◌, ◌&&◌, ◌||◌, Bool, true, false, cond, nat_lt, ◌⊎◌}
 use Rattle.std.proofs.Common.{◌≢◌, inl, inr, nat_eq, List, [], ◌∷◌, find, get_or, length, map, sum, refl, sym, ◌∙◌, ap}
-use Rattle.std.proofs.Common.{subst, arith, Option, Some, None, unwrap_or}
+use Rattle.std.proofs.Common.{subst, arith, Option, Some, None, is_some, unwrap_or}
 use Rattle.std.specs.List.{range_with_len}
 use Rattle.std.specs.Option.{option_map, option_map_or, option_or}
 use Rattle.std.proofs.Math.Bool.{and_comm}
@@ -14,7 +14,7 @@ use Rattle.sfnt_bytes.specs.Refusals.{is_duplicate, is_outside, tag_lines}
 use Rattle.sfnt_bytes.specs.declared.directory.DirError.TheVariants.{DuplicateTable, TableOutOfFile}
 use Rattle.sfnt_bytes.specs.declared.directory.TheConstants.{MAX_FILE}
 use Rattle.sfnt_bytes.specs.declared.tag.Tag.{Tag}
-use Rattle.sfnt_bytes.specs.declared.tag.TheConstants.{ALL_SLOTS, GVAR, HMTX, LAYOUT, LAYOUT_AND_VARIATIONS, POST}
+use Rattle.sfnt_bytes.specs.declared.tag.TheConstants.{ALL_SLOTS, COLR, GVAR, HMTX, LAYOUT_AND_COLOURS, OTHERS, POST}
 use Rattle.sfnt_bytes.specs.declared.tag.TheConstants.{VMTX}
 use Rattle.sfnt_bytes.proofs.LineLemmas.{find-none_at, first_of_lines-none_at, option_map-none}
 use Rattle.sfnt_bytes.proofs.RefusalLemmas.{tags_inside, tags_single}
@@ -26,16 +26,26 @@ use Rattle.font_glyph.specs.RecordMap.{record_in}
 use Rattle.font_variations.specs.Gvar.{front_of, shared_tuples_of}
 use Rattle.font_variations.specs.MadeGvar.{IsForGvar, gvar_bytes}
 use Rattle.font_variations.proofs.LawLemmas.{made_read, parts_fit}
+use Rattle.colour_tables.specs.PaintLists.{is_paint_table}
+use Rattle.colour_tables.specs.Stores.{no_store, store_of}
 use Rattle.font_theory.specs.Bytes.{padded}
+use Rattle.font_theory.specs.ColourTables.{colours, varying_colours}
+use Rattle.font_theory.specs.Ways.{kept_parts}
+use Rattle.font_theory.proofs.ColourSettingsLemmas.{read_there as coloured_read}
+use Rattle.font_theory.proofs.ColourTableLemmas.{same-part}
+use Rattle.font_theory.proofs.ColourWordLemmas.{colr-fronts, cut-made, still-colours, varying-colours}
+use Rattle.font_theory.proofs.ReaderLemmas.{count-seen}
 use Rattle.font_theory.specs.Content.{Content, Font, IsFont, Wanted, content, everything, glyph_count}
-use Rattle.font_theory.specs.Content.{is_bad_variations_in, is_kept, is_made, is_never_copied, is_never_in_layout}
+use Rattle.font_theory.specs.Content.{is_bad_variations_in, is_colour_slot, is_kept, is_made, is_never_copied}
+use Rattle.font_theory.specs.Content.{is_never_in_layout}
 use Rattle.font_theory.specs.Content.{metric_count, of_codes, plain_font, read_back, wanted_within, table_in_slot}
 use Rattle.font_theory.specs.Cut.{IsCurrent, Writes, cut, our_format}
 use Rattle.font_theory.specs.Cut.Arises.{of_file}
 use Rattle.font_theory.specs.File.{Writing, current_writing, file, glyf_bytes, groups_of_content, outlines_of}
 use Rattle.font_theory.specs.File.{padded_length, size_of, cmap_of_content, cmap_with_sequences}
 use Rattle.font_theory.specs.Kinds.{AreSettings, HasNothingVarying, Settings, by_metrics, by_variations, fault_by}
-use Rattle.font_theory.specs.Kinds.{fault_of, font_by, font_of, settings, with_sequences, format_by, layout_settings}
+use Rattle.font_theory.specs.Kinds.{fault_of, font_by, font_of, settings, with_colours, with_sequences, format_by}
+use Rattle.font_theory.specs.Kinds.{layout_settings}
 use Rattle.font_theory.specs.Kinds.{lean_settings, lines_by, read_by, reduced, tables_by, has_record, there_by}
 use Rattle.font_theory.specs.Kinds.{variable_settings, without_layout, table_in_file}
 use Rattle.font_theory.specs.Kinds.Reading.{absent, as_it_is, unvarying}
@@ -56,7 +66,7 @@ use Rattle.font_theory.proofs.DividedLemmas.{parts-whole, reduced-is, IsClosed-w
 use Rattle.font_theory.proofs.EntryLemmas.{length-cleared}
 use Rattle.font_theory.proofs.KindFileLemmas.{font_of-by}
 use Rattle.font_theory.proofs.KindJoinLemmas.{parts_of-slot}
-use Rattle.font_theory.specs.declared.kinds.Kind.TheVariants.{Variable}
+use Rattle.font_theory.specs.declared.kinds.Kind.TheVariants.{Layout, Variable}
 use Rattle.font_theory.specs.declared.kinds.TheConstants.{SEQUENCES}
 use Rattle.font_theory.proofs.KindLemmas.{AreSettings-layout, AreSettings-lean, AreSettings-variable, DividesAs}
 use Rattle.font_theory.proofs.KindLemmas.{settings-are, file-same, lean_fault-is, tables_by-plain}
@@ -70,7 +80,7 @@ use Rattle.font_theory.proofs.PartLemmas.{parts_of-undivided, wholes-other, whol
 use Rattle.font_theory.proofs.PartedLemmas.{IsPartition-metrics, IsPartition-variations, length-thin_post}
 use Rattle.font_theory.proofs.PartedLemmas.{other-metrics}
 use Rattle.font_theory.proofs.SettingsLemmas.{IsFont-by, font_fault-by, has_record-nothing, has_record-padded}
-use Rattle.font_theory.proofs.SettingsLemmas.{none_refused, reads-by, there-low, table_in_file-tag}
+use Rattle.font_theory.proofs.SettingsLemmas.{none_refused, reads-by, there-low, table_in_file-tag, tables_by-below}
 use Rattle.font_glyph.specs.Reach.Reach.{seed, part}
 use Rattle.font_theory.proofs.SizeLemmas.{length-file, length-said_lines-total, one_of, sum-map, total}
 use Rattle.font_theory.proofs.WordLemmas.{count-reduced, hmtx-reduced, post-reduced, reduced-slot, vmtx-reduced}
@@ -221,7 +231,8 @@ module _ (s : Settings) (is : AreSettings s) (how : DividesAs s) where
   plain_how : (slot : ℕ) → is_made slot ≡ false → (p slot ≡ undivided) ⊎ (p slot ≡ by_metrics slot)
   plain_how = by_any_slot (λ slot. is_made slot ≡ false → (p slot ≡ undivided) ⊎ (p slot ≡ by_metrics slot))
       (λ e. no_slot (sym e)) (λ _. how.hmtx) (λ _. how.post) (λ _. how.vmtx) (λ e. no_slot (sym e))
-      (λ slot d x y z w _. inl (is.partition.others slot (rw (d, x, y, z, w) refl)))
+      (λ e. no_slot (sym e))
+      (λ slot d x y z v w _. inl (is.partition.others slot (rw (d, x, y, z, v, w) refl)))
 
   module _ (F : Font) (ok : IsFont F) (A B : Wanted) (by : IsNumbered s B) where
     abbrev K : Content
@@ -698,16 +709,16 @@ length-lean_cut X codes accepted =
 -- a file in which nothing varies is the same to both readers
 module _ (X : List ℕ) (still : HasNothingVarying X) where
   abbrev layout : Settings
-  layout = with_sequences layout_settings
+  layout = with_colours colours (with_sequences layout_settings)
 
   abbrev variable : Settings
-  variable = with_sequences variable_settings
+  variable = with_colours varying_colours (with_sequences variable_settings)
 
   abbrev layout_is : AreSettings layout
-  layout_is = AreSettings-sequences layout_settings AreSettings-layout
+  layout_is = settings-are Layout
 
   abbrev variable_is : AreSettings variable
-  variable_is = AreSettings-sequences variable_settings AreSettings-variable
+  variable_is = settings-are Variable
 
   read_here : (slot : ℕ) → is_never_copied slot ≡ false
       → read_by (cond (is_never_in_layout slot) absent (cond (is_layout_slot slot) unvarying as_it_is)) slot
@@ -728,46 +739,89 @@ module _ (X : List ℕ) (still : HasNothingVarying X) where
             ]
       ]
 
-  tagged_slot : (slot : ℕ) → tables_by layout_settings X slot ≡ tables_by variable_settings X slot
-  unfolding layout_settings variable_settings
-  tagged_slot slot =
-      elim (cases_Bool (is_never_copied slot)) [
+  layout_reading : (slot : ℕ) → is_colour_slot slot ≡ false → layout_settings.reading slot
+      ≡ cond (is_never_in_layout slot) absent (cond (is_layout_slot slot) unvarying as_it_is)
+  unfolding layout_settings
+  layout_reading slot f =
+      ap (λ b. cond (b || is_never_in_layout slot) absent (cond (is_layout_slot slot) unvarying as_it_is)) f
+
+  variable_reading : (slot : ℕ) → is_colour_slot slot ≡ false → variable_settings.reading slot
+      ≡ cond (is_never_copied slot) absent as_it_is
+  unfolding variable_settings
+  variable_reading slot f = ap (λ b. cond (b || is_never_copied slot) absent as_it_is) f
+
+  tagged_slot : (slot : ℕ) → is_colour_slot slot ≡ false
+      → tables_by layout_settings X slot ≡ tables_by variable_settings X slot
+  tagged_slot slot f =
+      ap (λ r. read_by r slot (table_in_file X slot)) (layout_reading slot f)
+      ∙ elim (cases_Bool (is_never_copied slot)) [
         | inl t ↦
             ap (λ b. read_by (cond b absent (cond (is_layout_slot slot) unvarying as_it_is)) slot
             (table_in_file X slot)) (never-layout slot t)
             ∙ sym (ap (λ b. read_by (cond b absent as_it_is) slot (table_in_file X slot)) t)
-        | inr f ↦
-            let here = table_in_file-tag X slot (λ e. both_ways _ f (ap is_never_copied e)) in
-            ap (read_by (layout_settings.reading slot) slot) here ∙ read_here slot f ∙ sym here
-            ∙ sym (ap (λ b. read_by (cond b absent as_it_is) slot (table_in_file X slot)) f)
+        | inr k ↦
+            let here =
+            table_in_file-tag X slot (λ e. both_ways _ k (ap is_never_copied e))
+            (λ e. both_ways _ f (ap is_colour_slot e)) in
+            ap (read_by (cond (is_never_in_layout slot) absent (cond (is_layout_slot slot) unvarying as_it_is)) slot) here
+            ∙ read_here slot k ∙ sym here
+            ∙ sym (ap (λ b. read_by (cond b absent as_it_is) slot (table_in_file X slot)) k)
       ]
+      ∙ sym (ap (λ r. read_by r slot (table_in_file X slot)) (variable_reading slot f))
 
-  same_slot : (slot : ℕ) → tables_by layout X slot ≡ tables_by variable X slot
-  same_slot slot = elim (cases_eq slot SEQUENCES) [
-    | inl e ↦ subst (λ (k : ℕ). tables_by layout X k ≡ tables_by variable X k) (sym e) refl
+  plain_slot : (slot : ℕ) → is_colour_slot slot ≡ false
+      → tables_by (with_sequences layout_settings) X slot ≡ tables_by (with_sequences variable_settings) X slot
+  plain_slot slot f = elim (cases_eq slot SEQUENCES) [
+    | inl e ↦
+        subst (λ (k : ℕ). tables_by (with_sequences layout_settings) X k
+        ≡ tables_by (with_sequences variable_settings) X k) (sym e) refl
     | inr other ↦
         ap (λ r. read_by r slot (table_in_file X slot)) (read_there layout_settings AreSettings-layout slot other)
-        ∙ tagged_slot slot
+        ∙ tagged_slot slot f
         ∙ sym (ap (λ r. read_by r slot (table_in_file X slot))
         (read_there variable_settings AreSettings-variable slot other))
+  ]
+
+  same_slot : (slot : ℕ) → tables_by layout X slot ≡ tables_by variable X slot
+  same_slot slot = elim (cases_Bool (is_colour_slot slot)) [
+    | inl t ↦
+        ap (λ b. read_by (cond b as_it_is ((with_sequences layout_settings).reading slot)) slot
+        (table_in_file X slot)) t
+        ∙ sym (ap (λ b. read_by (cond b as_it_is ((with_sequences variable_settings).reading slot)) slot
+        (table_in_file X slot)) t)
+    | inr f ↦
+        ap (λ r. read_by r slot (table_in_file X slot)) (coloured_read colours (with_sequences layout_settings) slot f)
+        ∙ plain_slot slot f
+        ∙ sym (ap (λ r. read_by r slot (table_in_file X slot))
+        (coloured_read varying_colours (with_sequences variable_settings) slot f))
   ]
 
   no_gvar : tables_by variable X GVAR ≡ None
   unfolding variable_settings
   no_gvar = still.absent GVAR (omega arith) (omega arith)
 
-  divided_same : (slot : ℕ) → slot ≢ GVAR → layout.partition slot ≡ variable.partition slot
+  divided_same : (slot : ℕ) → slot ≢ GVAR → slot ≢ COLR → layout.partition slot ≡ variable.partition slot
   unfolding layout_settings variable_settings
-  divided_same slot other = let f = ne_eqb slot GVAR other in
-      sym (ap (λ b. cond (nat_eq slot SEQUENCES) sequences (cond b variations (by_metrics slot))) f)
+  divided_same slot other bare =
+      let f = ne_eqb slot GVAR other in
+      let k = ne_eqb slot COLR bare in
+      ap (λ b. cond b colours (cond (nat_eq slot SEQUENCES) sequences (by_metrics slot))) k
+      ∙ sym (λ i. cond (k i) varying_colours
+      (cond (nat_eq slot SEQUENCES) sequences (cond (f i) variations (by_metrics slot))))
 
-  -- data that are not there are no parts
+  -- data that are not there are no parts, and what varies in colours is in none
   part_same : (c : Tables) → c GVAR ≡ None → (slot g : ℕ)
       → parts_of layout.partition c slot g ≡ parts_of variable.partition c slot g
+  unfolding parts_of
   part_same c none slot g = elim (cases_eq slot GVAR) [
     | inl e ↦ let gone : c slot ≡ None = ap c e ∙ none in
         parts_of-none layout.partition c slot g gone ∙ sym (parts_of-none variable.partition c slot g gone)
-    | inr other ↦ parts_of-slot layout.partition variable.partition slot (divided_same slot other) c g
+    | inr other ↦ elim (cases_eq slot COLR) [
+      | inl e ↦
+          subst (λ (k : ℕ). parts_of layout.partition c k g ≡ parts_of variable.partition c k g) (sym e)
+          (λ i. cond (nat_lt g (glyph_count c)) (option_map_or (λ t. same-part (context c) t g i) (c COLR) []) [])
+      | inr bare ↦ parts_of-slot layout.partition variable.partition slot (divided_same slot other bare) c g
+    ]
   ]
 
   numbered_both : layout.by_number ≡ variable.by_number
@@ -801,18 +855,55 @@ module _ (X : List ℕ) (still : HasNothingVarying X) where
     ok : IsFont (font_by variable X)
     ok = IsFont-by variable variable_is X accepted
 
-    reduced_slot : (C : Content) → C.copied GVAR ≡ None → (slot : ℕ)
+    -- colours that do not vary are made alike
+    abbrev IsStill : Content → Type 0
+    IsStill C = (colr : List ℕ) → C.copied COLR ≡ Some colr
+        → is_paint_table (glyph_count (context C.copied)) colr ≡ true → store_of colr ≡ no_store
+
+    is_still : (A : Wanted) → IsStill (content (font_by variable X) A)
+    unfolding context glyph_count
+    is_still A colr here paint =
+        still.colours colr here ((λ i. is_paint_table (sym (count-seen X (tables_by variable X) (λ _. false)
+        (tables_by-below variable variable_is X)) i) colr) ∙ paint)
+
+    colours_same : (C : Content) → IsStill C → (reduced variable.partition C).copied COLR
+        ≡ (reduced layout.partition C).copied COLR
+    unfolding reduced
+    colours_same C nothing_varies = go (C.copied COLR) refl
+      where
+        keeps : ℕ → Bool
+        keeps g = is_some (C.outline g)
+
+        go : (o : Option (List ℕ)) → C.copied COLR ≡ o
+            → option_map (λ t. varying_colours.whole (context C.copied) (varying_colours.frame (context C.copied) t)
+            (kept_parts varying_colours (context C.copied) t keeps)) o
+            ≡ option_map (λ t. colours.whole (context C.copied) (colours.frame (context C.copied) t)
+            (kept_parts colours (context C.copied) t keeps)) o
+        go None e = refl
+        go (Some t) e =
+            ap Some (cut-made varying_colours store_of varying-colours (context C.copied) t keeps
+            ∙ colr-fronts store_of (λ _. no_store) _ (glyph_count (context C.copied)) t (nothing_varies t e)
+            ∙ sym (cut-made colours (λ _. no_store) still-colours (context C.copied) t keeps))
+
+    reduced_slot : (C : Content) → C.copied GVAR ≡ None → IsStill C → (slot : ℕ)
         → (reduced variable.partition C).copied slot ≡ (reduced layout.partition C).copied slot
     unfolding reduced
-    reduced_slot C none slot = elim (cases_eq slot GVAR) [
+    reduced_slot C none nothing_varies slot = elim (cases_eq slot GVAR) [
       | inl e ↦ let gone : C.copied slot ≡ None = ap C.copied e ∙ none in
           ap (option_map _) gone ∙ sym (ap (option_map _) gone)
-      | inr other ↦ reduced-slot variable.partition layout.partition C slot (sym (divided_same slot other))
+      | inr other ↦ elim (cases_eq slot COLR) [
+        | inl e ↦
+            subst (λ (k : ℕ). (reduced variable.partition C).copied k ≡ (reduced layout.partition C).copied k) (sym e)
+            (colours_same C nothing_varies)
+        | inr bare ↦ reduced-slot variable.partition layout.partition C slot (sym (divided_same slot other bare))
+      ]
     ]
 
-    reduced_same : (C : Content) → C.copied GVAR ≡ None → reduced variable.partition C ≡ reduced layout.partition C
+    reduced_same : (C : Content) → C.copied GVAR ≡ None → IsStill C
+        → reduced variable.partition C ≡ reduced layout.partition C
     unfolding reduced
-    reduced_same C none = content-path (fun_ext (reduced_slot C none)) refl refl refl refl refl
+    reduced_same C none nothing_varies =
+        content-path (fun_ext (reduced_slot C none nothing_varies)) refl refl refl refl refl
 
     -- and has the same cuts
     pub cut-unvarying : (A : Wanted) → cut (format_by variable) X A ≡ cut (format_by layout) X A
@@ -820,30 +911,32 @@ module _ (X : List ℕ) (still : HasNothingVarying X) where
     cut-unvarying A =
         let F : Font = font_by variable X in
         ap (file current_writing)
-        (reduced-is variable.partition variable_is.partition F ok A ∙ reduced_same (content F A) no_gvar
+        (reduced-is variable.partition variable_is.partition F ok A ∙ reduced_same (content F A) no_gvar (is_still A)
         ∙ sym (reduced-is layout.partition layout_is.partition F ok A)
         ∙ sym (ap (λ (G : Font). undivided_content layout.partition
         (content (divided layout.partition G) A)) same_font))
 
     -- it is accepted for layout cuts
     abbrev tags : List Tag
-    tags = LAYOUT_AND_VARIATIONS
+    tags = OTHERS
 
     fine_tags : first_of_lines (tag_lines tags X) ≡ None
     unfolding variable_settings
     fine_tags = option_map-none Directory _ (first_of_lines-none_at (lines_by variable X) 0
         (none_refused variable variable_is X accepted))
 
-    none_among : (p : Tag → Bool) → find p tags ≡ None → find p LAYOUT ≡ None
+    none_among : (p : Tag → Bool) → find p tags ≡ None → find p LAYOUT_AND_COLOURS ≡ None
     none_among p none =
-        let at : (k : ℕ) → k < 13 → p (get_or tags k (record { 0 = [] })) ≡ false =
+        let at : (k : ℕ) → k < 15 → p (get_or tags k (record { 0 = [] })) ≡ false =
         λ k low. find-none_at p tags k (record { 0 = [] }) none low in
         let base = at 0 (omega arith) in
-        let gdef = at 1 (omega arith) in
-        let gpos = at 2 (omega arith) in
-        let gsub = at 3 (omega arith) in
-        let kern = at 12 (omega arith) in
-        rw (base, gdef, gpos, gsub, kern) refl
+        let colr = at 1 (omega arith) in
+        let cpal = at 2 (omega arith) in
+        let gdef = at 3 (omega arith) in
+        let gpos = at 4 (omega arith) in
+        let gsub = at 5 (omega arith) in
+        let kern = at 14 (omega arith) in
+        rw (base, colr, cpal, gdef, gpos, gsub, kern) refl
 
     pub fault-unvarying : fault_by layout X ≡ None
     unfolding fault_by layout_settings

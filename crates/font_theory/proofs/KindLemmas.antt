@@ -1,30 +1,33 @@
 -- The settings of each kind, and full cuts as those of a plain reader.
-use Rattle.std.proofs.Common.{◌≡◌, ℕ, Bool, true, false, cond, ◌&&◌, nat_eq, nat_lt, inl, inr, List, [], ◌⊎◌, refl, ◌∙◌}
+use Rattle.std.proofs.Common.{◌≡◌, ℕ, Bool, true, false, cond, ◌&&◌, ◌||◌, nat_eq, nat_lt, inl, inr, List, [], ◌⊎◌, refl, ◌∙◌}
 use Rattle.std.proofs.Common.{sym, ap, subst, ◌∷◌, not, Option, Some, None, ◌≢◌}
 use Rattle.std.specs.Option.{option_map, option_or}
 use Rattle.std.proofs.lemmas.Bool.{both_ways, cases_Bool, cases_eq, false_from_ne_true, leb-false, ne_eqb, or_parts}
+use Rattle.std.proofs.lemmas.Bool.{or_right}
 use Rattle.sfnt_bytes.specs.Directory.{is_layout_slot, slot_tag, table_of}
 use Rattle.sfnt_bytes.specs.Lines.{first_of_lines, when}
 use Rattle.sfnt_bytes.specs.Refusals.{tag_lines}
 use Rattle.sfnt_bytes.specs.declared.directory.TheConstants.{MAX_FILE}
-use Rattle.sfnt_bytes.specs.declared.tag.TheConstants.{GVAR, HHEA, HMTX, POST, SLOTS, VHEA, VMTX}
+use Rattle.sfnt_bytes.specs.declared.tag.TheConstants.{COLR, CPAL, GVAR, HHEA, HMTX, POST, SLOTS, VHEA}
+use Rattle.sfnt_bytes.specs.declared.tag.TheConstants.{VMTX}
 use Rattle.font_file.specs.Font.{font_fault}
 use Rattle.font_file.specs.declared.font_error.FontError.{FontError}
 use Rattle.font_file.specs.declared.font_error.FontError.TheVariants.{BadVariations, Directory}
 use Rattle.font_theory.specs.Content.{Content, content, everything, glyph_count, is_made, is_never_copied, plain_font}
-use Rattle.font_theory.specs.Content.{is_never_filled, read_back}
+use Rattle.font_theory.specs.Content.{is_colour_slot, is_never_filled, read_back}
 use Rattle.font_theory.specs.Cut.{Arises, IsCut, our_format}
 use Rattle.font_theory.specs.File.{Writing, adjustment_in, bytes_in_slot, current_writing, file, groups_of_content}
 use Rattle.font_theory.specs.File.{outlines_of, writing_of}
 use Rattle.font_theory.specs.Kinds.{AreSettings, IsKind, Settings, all_undivided, by_metrics, divides_tables, fault_by}
-use Rattle.font_theory.specs.Kinds.{by_variations, keeps_sequences}
+use Rattle.font_theory.specs.Kinds.{by_variations, keeps_sequences, palettes_of_file}
+use Rattle.font_theory.specs.ColourTables.{colours, varying_colours}
 use Rattle.font_theory.specs.Kinds.{fault_of, font_by, font_of, format_by, format_of, full_settings, has_record}
 use Rattle.font_theory.specs.Kinds.{layout_settings, lean_settings, partition_of, plain_reading, read_by, settings}
 use Rattle.font_theory.specs.Kinds.{sequences_of_file, spelled_by, table_in_file, tables_by, tables_of, there_by}
 use Rattle.font_theory.specs.Kinds.{variable_settings, with_sequences}
 use Rattle.font_theory.specs.Kinds.Reading.{absent, as_it_is, unvarying}
 use Rattle.font_theory.specs.Parted.{metrics, nameless, sequences, variations}
-use Rattle.font_theory.specs.Parting.{AlwaysFits, Partition, Tables, divided, fits_at, parts_of, undivided}
+use Rattle.font_theory.specs.Parting.{AlwaysFits, Parting, Partition, Tables, divided, fits_at, parts_of, undivided}
 use Rattle.font_theory.specs.Parting.{undivided_content}
 use Rattle.font_theory.specs.declared.Profile.TheVariants.{First}
 use Rattle.font_theory.specs.declared.kinds.Kind.{Kind}
@@ -33,9 +36,11 @@ use Rattle.font_theory.specs.declared.kinds.Kind.TheVariants.{Full, Layout, Lean
 use Rattle.font_theory.proofs.ContentLemmas.{parts-path}
 use Rattle.font_theory.proofs.FontLemmas.{never-made}
 use Rattle.font_theory.proofs.LinkLemmas.{is_bad_variations_in-none, layout-made, may-layout, filled-never}
-use Rattle.font_theory.proofs.LinkLemmas.{never-layout}
+use Rattle.font_theory.proofs.LinkLemmas.{never-layout, plain-colourless}
 use Rattle.font_theory.proofs.PartLemmas.{by_slot, frames-undivided, parts_of-undivided, wholes-undivided}
-use Rattle.font_theory.proofs.DividedLemmas.{misfit-always, misfit-sequences}
+use Rattle.font_theory.proofs.DividedLemmas.{misfit-always, misfit-others}
+use Rattle.font_theory.proofs.ColourSettingsLemmas.{AreSettings-colours}
+use Rattle.font_theory.proofs.ColourTableLemmas.{colour_tables_are}
 use Rattle.font_theory.proofs.PartedLemmas.{AlwaysFits-metrics, AlwaysFits-undivided, AlwaysFits-variations}
 use Rattle.font_theory.proofs.PartedLemmas.{IsPartition-metrics, IsPartition-undivided, IsPartition-variations}
 use Rattle.font_theory.proofs.PartedLemmas.{other-metrics}
@@ -63,6 +68,7 @@ AreSettings-full = record {
   never = plain_never;
   whole = λ slot e. refl;
   sequences = inl refl;
+  colours = inl (refl, refl);
   partition = IsPartition-undivided;
 }
 
@@ -73,6 +79,7 @@ AreSettings-lean = record {
   never = plain_never;
   whole = λ slot e. plain_whole slot e;
   sequences = inl refl;
+  colours = inl (refl, refl);
   partition = IsPartition-metrics;
 }
 
@@ -81,28 +88,31 @@ unfolding layout_settings
 layout_plain slot f =
     let a = may-layout slot f in
     let b = false_from_ne_true (is_layout_slot slot) (λ t. both_ways (is_made slot) f (layout-made slot t)) in
-    λ i. cond (a i) absent (cond (b i) unvarying as_it_is)
+    let c = plain-colourless slot f in
+    λ i. cond (c i || a i) absent (cond (b i) unvarying as_it_is)
 
 pub AreSettings-layout : AreSettings layout_settings
 unfolding layout_settings
 AreSettings-layout = record {
   plain = layout_plain;
-  never = λ slot never. ap (λ b. cond b absent (cond (is_layout_slot slot) unvarying as_it_is)) (never-layout slot
-      (filled-never slot never));
+  never = λ slot never. ap (λ b. cond b absent (cond (is_layout_slot slot) unvarying as_it_is))
+      (or_right (is_colour_slot slot) _ (never-layout slot (filled-never slot never)));
   whole = by_slot (λ slot. layout_settings.reading slot ≡ unvarying → by_metrics slot ≡ undivided)
       (λ e. refl) (λ e. cc) (λ e. cc) (λ e. cc) (λ slot d a b c e. other-metrics slot a b c);
   sequences = inl refl;
+  colours = inl (refl, refl);
   partition = IsPartition-metrics;
 }
 
 pub AreSettings-variable : AreSettings variable_settings
 unfolding variable_settings
 AreSettings-variable = record {
-  plain = λ slot f. rw (false_from_ne_true (is_never_copied slot)
-      (λ t. both_ways (is_made slot) f (never-made slot t))) refl;
-  never = λ slot never. rw (filled-never slot never) refl;
-  whole = λ slot e. go (is_never_copied slot) e;
+  plain = λ slot f. λ i. cond (plain-colourless slot f i || false_from_ne_true (is_never_copied slot)
+      (λ t. both_ways (is_made slot) f (never-made slot t)) i) absent as_it_is;
+  never = λ slot never. ap (λ b. cond b absent as_it_is) (or_right (is_colour_slot slot) _ (filled-never slot never));
+  whole = λ slot e. go (is_colour_slot slot || is_never_copied slot) e;
   sequences = inl refl;
+  colours = inl (refl, refl);
   partition = IsPartition-variations;
 }
   where
@@ -113,8 +123,12 @@ AreSettings-variable = record {
 pub settings-are : (kind : Kind) → AreSettings (settings kind)
 settings-are Full = AreSettings-full
 settings-are Lean = AreSettings-lean
-settings-are Layout = AreSettings-sequences layout_settings AreSettings-layout
-settings-are Variable = AreSettings-sequences variable_settings AreSettings-variable
+settings-are Layout =
+    AreSettings-colours colours colour_tables_are.0 (with_sequences layout_settings)
+    (AreSettings-sequences layout_settings AreSettings-layout)
+settings-are Variable =
+    AreSettings-colours varying_colours colour_tables_are.1 (with_sequences variable_settings)
+    (AreSettings-sequences variable_settings AreSettings-variable)
 
 -- what a plain reader refuses and sees
 module _ (s : Settings) (is : AreSettings s) (plain : (slot : ℕ) → s.reading slot ≡ plain_reading slot) where
@@ -235,11 +249,15 @@ pub numbered : (kind : Kind) → (settings kind).by_number ≡ true → (slot : 
 unfolding full_settings lean_settings layout_settings variable_settings
 numbered Full h slot f = cc
 numbered Lean h slot f = refl
-numbered Layout h slot f = let past = ne_eqb slot SEQUENCES (λ e. both_ways _ f (ap is_made e)) in rw past refl
+numbered Layout h slot f =
+    let colourless = ne_eqb slot COLR (λ e. both_ways _ f (ap is_made e)) in
+    let past = ne_eqb slot SEQUENCES (λ e. both_ways _ f (ap is_made e)) in
+    rw (colourless, past) refl
 numbered Variable h slot f =
+    let colourless = ne_eqb slot COLR (λ e. both_ways _ f (ap is_made e)) in
     let past = ne_eqb slot SEQUENCES (λ e. both_ways _ f (ap is_made e)) in
     let other = ne_eqb slot GVAR (λ e. both_ways _ f (ap is_made e)) in
-    rw (past, other) refl
+    rw (colourless, past, other) refl
 
 -- how each kind divides tables
 pub record DividesAs (s : Settings) : Type 0 where
@@ -247,23 +265,53 @@ pub record DividesAs (s : Settings) : Type 0 where
   pub hmtx : (s.partition HMTX ≡ undivided) ⊎ (s.partition HMTX ≡ metrics HHEA)
   pub post : (s.partition POST ≡ undivided) ⊎ (s.partition POST ≡ nameless)
   pub vmtx : (s.partition VMTX ≡ undivided) ⊎ (s.partition VMTX ≡ metrics VHEA)
+  pub colours :
+      ((s.partition COLR ≡ colours) ⊎ (s.partition COLR ≡ varying_colours)) ⊎ (s.reading COLR ≡ absent)
   pub sequences : (s.partition SEQUENCES ≡ sequences) ⊎ (s.reading SEQUENCES ≡ absent)
 
 full_divides : DividesAs full_settings
 unfolding full_settings
-full_divides = record { gvar = inr refl; hmtx = inl refl; post = inl refl; vmtx = inl refl; sequences = inr refl }
+full_divides = record {
+  gvar = inr refl;
+  hmtx = inl refl;
+  post = inl refl;
+  vmtx = inl refl;
+  colours = inr refl;
+  sequences = inr refl;
+}
 
 lean_divides : DividesAs lean_settings
 unfolding lean_settings
-lean_divides = record { gvar = inr refl; hmtx = inr refl; post = inr refl; vmtx = inr refl; sequences = inr refl }
+lean_divides = record {
+  gvar = inr refl;
+  hmtx = inr refl;
+  post = inr refl;
+  vmtx = inr refl;
+  colours = inr refl;
+  sequences = inr refl;
+}
 
-layout_divides : DividesAs (with_sequences layout_settings)
+layout_divides : DividesAs (settings Layout)
 unfolding layout_settings
-layout_divides = record { gvar = inr refl; hmtx = inr refl; post = inr refl; vmtx = inr refl; sequences = inl refl }
+layout_divides = record {
+  gvar = inr refl;
+  hmtx = inr refl;
+  post = inr refl;
+  vmtx = inr refl;
+  colours = inl (inl refl);
+  sequences = inl refl;
+}
 
-variable_divides : DividesAs (with_sequences variable_settings)
+variable_divides : DividesAs (settings Variable)
 unfolding variable_settings
-variable_divides = record { gvar = inl refl; hmtx = inr refl; post = inr refl; vmtx = inr refl; sequences = inl refl }
+variable_divides = record {
+  gvar = inl refl;
+  hmtx = inr refl;
+  post = inr refl;
+  vmtx = inr refl;
+  colours = inl (inr refl);
+  sequences = inl refl;
+}
 
 pub divides : (kind : Kind) → DividesAs (settings kind)
 divides Full = full_divides
@@ -279,30 +327,36 @@ undivided-kind Lean none slot = cc
 undivided-kind Layout none slot = cc
 undivided-kind Variable none slot = cc
 
-pub divided-kind : (kind : Kind) → divides_tables kind ≡ true → (slot : ℕ) → slot ≢ GVAR → slot ≢ SEQUENCES
-    → partition_of kind slot ≡ by_metrics slot
+pub divided-kind : (kind : Kind) → divides_tables kind ≡ true → (slot : ℕ) → slot ≢ GVAR → slot ≢ COLR
+    → slot ≢ SEQUENCES → partition_of kind slot ≡ by_metrics slot
 unfolding lean_settings layout_settings variable_settings
-divided-kind Full some slot other tagged = cc
-divided-kind Lean some slot other tagged = refl
-divided-kind Layout some slot other tagged = let past = ne_eqb slot SEQUENCES tagged in rw past refl
-divided-kind Variable some slot other tagged =
+divided-kind Full some slot other bare tagged = cc
+divided-kind Lean some slot other bare tagged = refl
+divided-kind Layout some slot other bare tagged =
+    let colourless = ne_eqb slot COLR bare in
+    let past = ne_eqb slot SEQUENCES tagged in
+    rw (colourless, past) refl
+divided-kind Variable some slot other bare tagged =
+    let colourless = ne_eqb slot COLR bare in
     let past = ne_eqb slot SEQUENCES tagged in
     let f = ne_eqb slot GVAR other in
-    rw (past, f) refl
+    rw (colourless, past, f) refl
 
--- parts have room in each table of each kind, but for sequences
-fits-sequences : (p : Partition) → AlwaysFits p → (slot : ℕ) → slot ≢ SEQUENCES → (c : Tables) (frame : List ℕ)
-    (parts : ℕ → List ℕ) → (cond (nat_eq slot SEQUENCES) sequences (p slot)).fits c frame parts ≡ true
-fits-sequences p always slot other c frame parts =
-    ap (λ b. (cond b sequences (p slot)).fits c frame parts) (ne_eqb slot SEQUENCES other) ∙ always slot c frame parts
+-- parts have room in each table of each kind, but for colours and sequences
+fits-others : (p : Partition) (D : Parting) → AlwaysFits p → (slot : ℕ) → slot ≢ COLR → slot ≢ SEQUENCES → (c : Tables)
+    (frame : List ℕ) (parts : ℕ → List ℕ)
+    → (cond (nat_eq slot COLR) D (cond (nat_eq slot SEQUENCES) sequences (p slot))).fits c frame parts ≡ true
+fits-others p D always slot bare other c frame parts =
+    (λ i. (cond (ne_eqb slot COLR bare i) D (cond (ne_eqb slot SEQUENCES other i) sequences (p slot))).fits c frame
+    parts) ∙ always slot c frame parts
 
-pub fits-tagged : (kind : Kind) (slot : ℕ) → slot ≢ SEQUENCES → (c : Tables) (frame : List ℕ) (parts : ℕ → List ℕ)
-    → (partition_of kind slot).fits c frame parts ≡ true
+pub fits-tagged : (kind : Kind) (slot : ℕ) → slot ≢ COLR → slot ≢ SEQUENCES → (c : Tables) (frame : List ℕ)
+    (parts : ℕ → List ℕ) → (partition_of kind slot).fits c frame parts ≡ true
 unfolding full_settings lean_settings layout_settings variable_settings
-fits-tagged Full slot other = AlwaysFits-undivided slot
-fits-tagged Lean slot other = AlwaysFits-metrics slot
-fits-tagged Layout slot other = fits-sequences by_metrics AlwaysFits-metrics slot other
-fits-tagged Variable slot other = fits-sequences by_variations AlwaysFits-variations slot other
+fits-tagged Full slot bare other = AlwaysFits-undivided slot
+fits-tagged Lean slot bare other = AlwaysFits-metrics slot
+fits-tagged Layout slot bare other = fits-others by_metrics colours AlwaysFits-metrics slot bare other
+fits-tagged Variable slot bare other = fits-others by_variations varying_colours AlwaysFits-variations slot bare other
 
 pub AlwaysFits-kind : (kind : Kind) → keeps_sequences kind ≡ false → AlwaysFits (partition_of kind)
 unfolding full_settings lean_settings
@@ -316,9 +370,11 @@ unfolding format_by
 misfit-kind kind none K = misfit-always (partition_of kind) (AlwaysFits-kind kind none) K
 
 pub misfit-is : (kind : Kind) (K : Content)
-    → (format_of kind).misfit K ≡ when (not (fits_at (partition_of kind) K.copied K.parts SEQUENCES)) SEQUENCES
+    → (format_of kind).misfit K ≡ first_of_lines
+    (when (not (fits_at (partition_of kind) K.copied K.parts COLR)) COLR
+    ∷ when (not (fits_at (partition_of kind) K.copied K.parts SEQUENCES)) SEQUENCES ∷ [])
 unfolding format_by
-misfit-is kind K = misfit-sequences (partition_of kind) (fits-tagged kind) K
+misfit-is kind K = misfit-others (partition_of kind) (fits-tagged kind) K
 
 -- a kind that keeps sequences reads them as they are
 pub sequences_read : (kind : Kind) → keeps_sequences kind ≡ true → (settings kind).reading SEQUENCES ≡ as_it_is
@@ -336,12 +392,17 @@ pub read_whole : (kind : Kind) (X : List ℕ) → IsCut (format_of kind) X
 read_whole kind X form = read-cut (settings kind) (settings-are kind) X form
     ∙ ap read_back (sym (means-cut (settings kind) (settings-are kind) X form))
 
--- where no sequences are read, the tables are those of the tags
-pub tables_by-tags : (s : Settings) → s.reading SEQUENCES ≡ absent → (X : List ℕ) (slot : ℕ)
+-- where no sequences and no palettes are read, the tables are those of the tags
+pub tables_by-tags : (s : Settings) → s.reading SEQUENCES ≡ absent → s.reading CPAL ≡ absent → (X : List ℕ) (slot : ℕ)
     → tables_by s X slot ≡ read_by (s.reading slot) slot (table_of X (slot_tag slot))
-tables_by-tags s none X slot = elim (cases_eq slot SEQUENCES) [
+tables_by-tags s none bare X slot = elim (cases_eq slot SEQUENCES) [
   | inl e ↦ subst (λ (k : ℕ). tables_by s X k ≡ read_by (s.reading k) k (table_of X (slot_tag k))) (sym e)
       (ap (λ r. read_by r SEQUENCES (Some (sequences_of_file X))) none
       ∙ sym (ap (λ r. read_by r SEQUENCES (table_of X (slot_tag SEQUENCES))) none))
-  | inr other ↦ ap (read_by (s.reading slot) slot) (table_in_file-tag X slot other)
+  | inr other ↦ elim (cases_eq slot CPAL) [
+    | inl e ↦ subst (λ (k : ℕ). tables_by s X k ≡ read_by (s.reading k) k (table_of X (slot_tag k))) (sym e)
+        (ap (λ r. read_by r CPAL (palettes_of_file X)) bare
+        ∙ sym (ap (λ r. read_by r CPAL (table_of X (slot_tag CPAL))) bare))
+    | inr besides ↦ ap (read_by (s.reading slot) slot) (table_in_file-tag X slot other besides)
+  ]
 ]

@@ -65,3 +65,7 @@ pub mod SideLemmas
 pub mod LayerTableLemmas
 pub mod PaintTableLemmas
 pub mod ColourTableLemmas
+pub mod ColourWordLemmas
+pub mod ColourSettingsLemmas
+pub mod ColourCutLemmas
+pub mod UncolouredLemmas

@@ -1,14 +1,14 @@
 -- What the theory asks of links: there are none without `GSUB`, and `GSUB` alone says what they are.
-use Rattle.std.proofs.Common.{◌≡◌, ◌≢◌, ℕ, ◌<◌, ◌≤◌, true, false, nat_le, nat_lt, inl, inr, List, refl, ap, arith}
+use Rattle.std.proofs.Common.{◌≡◌, ◌≢◌, ℕ, ◌<◌, ◌≤◌, true, false, nat_eq, nat_le, nat_lt, inl, inr, List, refl, ap, arith}
 use Rattle.std.proofs.Common.{Option, Some, None, option_map}
 use Rattle.std.proofs.lemmas.Bool.{and_parts, both_ways, false_from_ne_true, le-leb, leb-true, lt-leb, lt-ltb, ltb-true}
-use Rattle.std.proofs.lemmas.Bool.{ne_eqb, leb-false, or_cases, or_left, or_parts, or_right}
+use Rattle.std.proofs.lemmas.Bool.{eqb-true, ne_eqb, leb-false, or_cases, or_left, or_parts, or_right}
 use Rattle.std.specs.Option.{option_map_or}
 use Rattle.sfnt_bytes.specs.Directory.{is_layout_slot}
-use Rattle.sfnt_bytes.specs.declared.tag.TheConstants.{ALL_SLOTS, FIRST_VARIATION, FVAR, GVAR}
+use Rattle.sfnt_bytes.specs.declared.tag.TheConstants.{ALL_SLOTS, COLR, CPAL, FIRST_VARIATION, FVAR, GVAR}
 use Rattle.font_variations.specs.Gvar.{is_bad_variations}
 use Rattle.font_theory.specs.Content.{glyph_count, is_bad_variations_in, is_made, is_never_copied, is_never_filled}
-use Rattle.font_theory.specs.Content.{is_never_in_layout}
+use Rattle.font_theory.specs.Content.{is_colour_slot, is_never_in_layout}
 use Rattle.font_theory.specs.declared.kinds.TheConstants.{SEQUENCES}
 use Rattle.font_layout.proofs.CleaningLemmas.{fixed-fixed}
 use Rattle.font_theory.specs.Links.{fixed}
@@ -64,7 +64,7 @@ never-filled slot h other = elim (or_cases _ (nat_le ALL_SLOTS slot) h) [
 pub never-layout : (slot : ℕ) → is_never_copied slot ≡ true → is_never_in_layout slot ≡ true
 never-layout slot h = elim (or_cases _ (nat_le ALL_SLOTS slot) h) [
   | inl one ↦ or_left _ (nat_le FIRST_VARIATION slot) one
-  | inr past ↦ let far = leb-true ALL_SLOTS slot past in or_right _ (nat_le FIRST_VARIATION slot) (le-leb 21 slot (omega arith))
+  | inr past ↦ let far = leb-true ALL_SLOTS slot past in or_right _ (nat_le FIRST_VARIATION slot) (le-leb FIRST_VARIATION slot (omega arith))
 ]
 
 pub never-in_plain : (slot : ℕ) → is_never_in_layout slot ≡ true → is_made slot ≡ true
@@ -89,3 +89,24 @@ slot-varies slot never copied =
       | inl one ↦ absurd (both_ways _ parts.0 one)
       | inr past ↦ (leb-true FIRST_VARIATION slot past, leb-false ALL_SLOTS slot parts.1)
     ]
+
+-- a slot of colours is none of a plain cut
+pub colour-made : (slot : ℕ) → is_colour_slot slot ≡ true → is_made slot ≡ true
+colour-made slot h = elim (or_cases (nat_eq slot COLR) (nat_eq slot CPAL) h) [
+  | inl e ↦ or_right _ (nat_le 16 slot) (let at = eqb-true slot COLR e in le-leb 16 slot (omega (arith, at)))
+  | inr e ↦ or_right _ (nat_le 16 slot) (let at = eqb-true slot CPAL e in le-leb 16 slot (omega (arith, at)))
+]
+
+-- so none of colours is among these
+pub plain-colourless : (slot : ℕ) → is_made slot ≡ false → is_colour_slot slot ≡ false
+plain-colourless slot f = false_from_ne_true _ (λ t. both_ways _ f (colour-made slot t))
+
+-- nor is one that is always empty
+pub colour-filled : (slot : ℕ) → is_colour_slot slot ≡ true → is_never_filled slot ≡ false
+colour-filled slot h = elim (or_cases (nat_eq slot COLR) (nat_eq slot CPAL) h) [
+  | inl e ↦ ap is_never_filled (eqb-true slot COLR e)
+  | inr e ↦ ap is_never_filled (eqb-true slot CPAL e)
+]
+
+pub never-colourless : (slot : ℕ) → is_never_filled slot ≡ true → is_colour_slot slot ≡ false
+never-colourless slot never = false_from_ne_true _ (λ t. both_ways _ (colour-filled slot t) never)

@@ -4,7 +4,7 @@ use Rattle.std.proofs.Common.{sym, ◌∙◌, ap, subst, Option, Some, None, unw
 use Rattle.std.specs.Option.{option_map, option_map_or}
 use Rattle.std.proofs.Math.Path.{fun_ext}
 use Rattle.std.proofs.lemmas.Bool.{cases_eq, le-ltb, lt-ltb, ne_eqb}
-use Rattle.sfnt_bytes.specs.declared.tag.TheConstants.{FVAR, GVAR, HHEA, HMTX, MAXP, POST, VMTX}
+use Rattle.sfnt_bytes.specs.declared.tag.TheConstants.{COLR, FVAR, GVAR, HHEA, HMTX, MAXP, POST, VMTX}
 use Rattle.codes.specs.CharacterMap.{restricted}
 use Rattle.font_tables.specs.Fields.{num_glyphs, number_of_h_metrics}
 use Rattle.font_tables.specs.Refusals.{is_bad_head, is_bad_hhea, is_bad_hmtx, is_bad_maxp}
@@ -42,20 +42,25 @@ by_slot P gvar hmtx post vmtx other slot =
 pub no_slot : {X : Type 0} → false ≡ true → X
 no_slot e = cc
 
--- so with that of sequences, which is past the tags
-pub by_any_slot : (P : ℕ → Type 0) → P GVAR → P HMTX → P POST → P VMTX → P SEQUENCES
+-- so with that of colours, and that of sequences, which is past the tags
+pub by_any_slot : (P : ℕ → Type 0) → P GVAR → P HMTX → P POST → P VMTX → P COLR → P SEQUENCES
     → ((slot : ℕ) → nat_eq slot GVAR ≡ false → nat_eq slot HMTX ≡ false → nat_eq slot POST ≡ false
-    → nat_eq slot VMTX ≡ false → nat_eq slot SEQUENCES ≡ false → P slot) → (slot : ℕ) → P slot
-by_any_slot P gvar hmtx post vmtx sequences other = by_slot P gvar hmtx post vmtx
-    (λ slot d a b c. elim (cases_eq slot SEQUENCES) [
-      | inl e ↦ subst P (sym e) sequences
-      | inr n ↦ other slot d a b c (ne_eqb slot SEQUENCES n)
+    → nat_eq slot VMTX ≡ false → nat_eq slot COLR ≡ false → nat_eq slot SEQUENCES ≡ false → P slot)
+    → (slot : ℕ) → P slot
+by_any_slot P gvar hmtx post vmtx colr sequences other = by_slot P gvar hmtx post vmtx
+    (λ slot d a b c. elim (cases_eq slot COLR) [
+      | inl e ↦ subst P (sym e) colr
+      | inr m ↦ elim (cases_eq slot SEQUENCES) [
+        | inl e ↦ subst P (sym e) sequences
+        | inr n ↦ other slot d a b c (ne_eqb slot COLR m) (ne_eqb slot SEQUENCES n)
+      ]
     ])
 
 -- what is always empty is not divided
 pub never-divided : (slot : ℕ) → is_never_filled slot ≡ true → may_divide slot ≡ false
 never-divided = by_any_slot (λ slot. is_never_filled slot ≡ true → may_divide slot ≡ false) (λ e. no_slot e)
-    (λ e. no_slot e) (λ e. no_slot e) (λ e. no_slot e) (λ e. no_slot e) (λ slot d a b c f _. rw (d, a, b, c, f) refl)
+    (λ e. no_slot e) (λ e. no_slot e) (λ e. no_slot e) (λ e. no_slot e) (λ e. no_slot e)
+    (λ slot d a b c m f _. rw (d, a, b, c, m, f) refl)
 
 -- tables that are the same where none is divided
 abbrev pub AreAlike : Tables → Tables → Type 0
@@ -171,10 +176,10 @@ good-font F ok =
     (glyph_count F.copied)) o false) e) ∙ ok.variations)
     (λ t e. sym (ap (λ (o : Option (List ℕ)). is_bad_hmtx (unwrap_or o []) (metric_count F.copied)
     (glyph_count F.copied)) e) ∙ ok.hmtx)
-    (λ t e. refl) (λ t e. refl)
+    (λ t e. refl) (λ t e. refl) (λ t e. refl)
     (λ t e. sym (ap (λ (o : Option (List ℕ)). is_bad_sequences (unwrap_or o []) (glyph_count F.copied)) e)
     ∙ ok.sequences)
-    (λ slot d a _ _ n t e. rw (d, a, n) refl)
+    (λ slot d a _ _ _ n t e. rw (d, a, n) refl)
 
 -- an option by what it is
 pub map_none : (f : List ℕ → List ℕ) (o : Option (List ℕ)) → option_map f o ≡ None → o ≡ None

@@ -49,6 +49,7 @@ module _ (s : Settings) (is : AreSettings s) where
         read_there slot (λ e. both_ways _ (ap is_never_filled e) never) ∙ is.never slot never;
     whole = whole_there;
     sequences = inr (refl, refl);
+    colours = is.colours;
     partition = record {
       law = partition_law;
       others = λ slot f.

@@ -11,7 +11,7 @@ use Rattle.sfnt_bytes.specs.Lines.{first_of_lines, when}
 use Rattle.sfnt_bytes.specs.Refusals.{tag_lines}
 use Rattle.sfnt_bytes.specs.declared.directory.DirError.TheVariants.{DuplicateTable, FileTooLarge, TableOutOfFile}
 use Rattle.sfnt_bytes.specs.declared.directory.TheConstants.{MAX_FILE}
-use Rattle.sfnt_bytes.specs.declared.tag.TheConstants.{SLOTS}
+use Rattle.sfnt_bytes.specs.declared.tag.TheConstants.{COLR, CPAL, SLOTS}
 use Rattle.sfnt_bytes.proofs.LineLemmas.{first_of_lines-none_at, when-none}
 use Rattle.font_tables.specs.Fields.{glyph_count_of}
 use Rattle.font_file.specs.Font.{cmap_of, font_fault, map_of}
@@ -24,7 +24,8 @@ use Rattle.font_theory.specs.Cut.{Arises, IsCut, IsFormat, Writes, content_of_al
 use Rattle.font_theory.specs.Cut.Arises.{of_file, of_two}
 use Rattle.font_theory.specs.File.{IsWriting, Writing, current_profile, current_writing, file, writing_of}
 use Rattle.font_theory.specs.Kinds.{AreSettings, IsKind, Reading, Settings, fault_by, font_by, format_by, lines_by}
-use Rattle.font_theory.specs.Kinds.{has_record, read_by, sequences_of_file, table_in_file, tables_by, there_by}
+use Rattle.font_theory.specs.Kinds.{has_record, palettes_of_file, read_by, sequences_of_file, table_in_file, tables_by}
+use Rattle.font_theory.specs.Kinds.{there_by}
 use Rattle.font_theory.specs.Difference.{PARTED}
 use Rattle.font_theory.specs.Parted.{sequences}
 use Rattle.font_theory.specs.SequenceTable.{is_bad_sequences}
@@ -141,11 +142,13 @@ marked-both s L M agree g l m = go (L.outline g) l
         g))) count
     go (Some a) x = x
 
--- before the slot of sequences a file has the tables of its tags
-pub table_in_file-tag : (X : List ℕ) (slot : ℕ) → slot ≢ SEQUENCES → table_in_file X slot ≡ table_of X (slot_tag slot)
-table_in_file-tag X slot other =
-    cond-false (nat_eq slot SEQUENCES) (Some (sequences_of_file X)) (table_of X (slot_tag slot))
-    (ne_eqb slot SEQUENCES other)
+-- before the slot of sequences a file has the tables of its tags, but for palettes without colours
+pub table_in_file-tag : (X : List ℕ) (slot : ℕ) → slot ≢ SEQUENCES → slot ≢ CPAL
+    → table_in_file X slot ≡ table_of X (slot_tag slot)
+table_in_file-tag X slot other besides =
+    cond-false (nat_eq slot SEQUENCES) (Some (sequences_of_file X))
+    (cond (nat_eq slot CPAL) (palettes_of_file X) (table_of X (slot_tag slot))) (ne_eqb slot SEQUENCES other)
+    ∙ cond-false (nat_eq slot CPAL) (palettes_of_file X) (table_of X (slot_tag slot)) (ne_eqb slot CPAL besides)
 
 module _ (s : Settings) (is : AreSettings s) where
   -- a table of a plain slot is read as a plain reader reads it
@@ -155,7 +158,7 @@ module _ (s : Settings) (is : AreSettings s) where
         | inl t ↦ ap (λ r. read_by r slot (table_in_file X slot)) (is.never slot (made-never slot t low))
             ∙ rw t refl
         | inr f ↦ ap (λ r. read_by r slot (table_in_file X slot)) (is.plain slot f)
-            ∙ table_in_file-tag X slot (λ e. omega (arith, e, low))
+            ∙ table_in_file-tag X slot (λ e. omega (arith, e, low)) (λ e. omega (arith, e, low))
             ∙ rw f (ap (table_of X) (slot_tag-kept slot low))
       ]
 
@@ -259,9 +262,57 @@ module _ (s : Settings) (is : AreSettings s) where
   unfolding wholes
   HasSequences-wholes c parts has = HasSequences-mapped c (wholes s.partition c parts) _ refl has
 
+  -- where palettes are read there is a table of colours beside them
+  abbrev pub HasColours : Tables → Type 0
+  HasColours c = c COLR ≡ None → c CPAL ≡ None
+
+  -- palettes beside a table
+  abbrev beside : Option (List ℕ) → Option (List ℕ) → Option (List ℕ)
+  beside colr cpal = cond (is_some colr) cpal None
+
+  beside-none : (colr cpal : Option (List ℕ)) → colr ≡ None → beside colr cpal ≡ None
+  beside-none colr cpal e = ap (λ o. beside o cpal) e
+
+  HasColours-tables : (X : List ℕ) → HasColours (tables_by s X)
+  unfolding palettes_of_file
+  HasColours-tables X gone = elim is.colours [
+    | inl w ↦ ap (λ r. read_by r CPAL (palettes_of_file X)) w.1
+    | inr w ↦
+        ap (λ r. read_by r CPAL (palettes_of_file X)) w.1
+        ∙ beside-none (table_of X (slot_tag COLR)) (table_of X (slot_tag CPAL))
+        (sym (ap (λ r. read_by r COLR (table_of X (slot_tag COLR))) w.0) ∙ gone)
+  ]
+
+  map_gone : (f : List ℕ → List ℕ) (o : Option (List ℕ)) → option_map f o ≡ None → o ≡ None
+  map_gone f None e = refl
+  map_gone f (Some t) e = cc
+
+  HasColours-frames : (c : Tables) → HasColours c → HasColours (frames s.partition c)
+  unfolding frames
+  HasColours-frames c has gone =
+      ap (option_map ((s.partition CPAL).frame (context c)))
+      (has (map_gone ((s.partition COLR).frame (context c)) (c COLR) gone))
+
+  HasColours-wholes : (c : Tables) (parts : ℕ → ℕ → List ℕ) → HasColours c → HasColours (wholes s.partition c parts)
+  unfolding wholes
+  HasColours-wholes c parts has gone =
+      ap (option_map (λ t. (s.partition CPAL).whole (context c) t (parts CPAL)))
+      (has (map_gone (λ t. (s.partition COLR).whole (context c) t (parts COLR)) (c COLR) gone))
+
   -- the file of a closed content is accepted, and read back
   module _ (writing : Writing) (asked : IsWriting writing) (K : Content) (ok : IsClosedContent K)
-      (read : AreRead K.copied) (has : HasSequences K.copied) where
+      (read : AreRead K.copied) (has : HasSequences K.copied) (colours : HasColours K.copied) where
+    -- its palettes
+    palettes : (colr cpal : Option (List ℕ)) → (colr ≡ None → cpal ≡ None) → beside colr cpal ≡ cpal
+    palettes None cpal h = sym (h refl)
+    palettes (Some t) cpal h = refl
+
+    palettes-file : palettes_of_file (file writing K) ≡ K.copied CPAL
+    unfolding palettes_of_file
+    palettes-file =
+        (λ i. beside (copied_of-file writing K COLR refl i) (copied_of-file writing K CPAL refl i))
+        ∙ palettes (K.copied COLR) (K.copied CPAL) colours
+
     sequences_by-file : ((s.reading SEQUENCES ≡ absent)
         ⊎ ((s.reading SEQUENCES ≡ as_it_is) × (s.partition SEQUENCES ≡ sequences)))
         → tables_by s (file writing K) SEQUENCES ≡ K.copied SEQUENCES
@@ -285,10 +336,14 @@ module _ (s : Settings) (is : AreSettings s) where
                 let never = never-filled slot t other in
                 ap (λ r. read_by r slot (table_in_file (file writing K) slot)) (is.never slot never)
                 ∙ sym (ok.font.slots slot never)
-            | inr f ↦
-                ap (read_by (s.reading slot) slot) (table_in_file-tag (file writing K) slot other
-                ∙ copied_of-file writing K slot f)
-                ∙ read slot
+            | inr f ↦ elim (cases_eq slot CPAL) [
+              | inl e ↦ subst (λ (k : ℕ). tables_by s (file writing K) k ≡ K.copied k) (sym e)
+                  (ap (read_by (s.reading CPAL) CPAL) palettes-file ∙ read CPAL)
+              | inr besides ↦
+                  ap (read_by (s.reading slot) slot) (table_in_file-tag (file writing K) slot other besides
+                  ∙ copied_of-file writing K slot f)
+                  ∙ read slot
+            ]
           ]
         ]
 
@@ -344,6 +399,13 @@ module _ (s : Settings) (is : AreSettings s) where
   HasSequences-by K (of_two L M l m agree fit e) =
       subst (λ (C : Content). HasSequences C.copied) e (HasSequences-by L l)
 
+  pub HasColours-by : (K : Content) → Arises (format_by s) K → HasColours K.copied
+  unfolding format_by
+  HasColours-by K (of_file X A h e) =
+      subst (λ (C : Content). HasColours C.copied) e (HasColours-frames (tables_by s X) (HasColours-tables X))
+  HasColours-by K (of_two L M l m agree fit e) =
+      subst (λ (C : Content). HasColours C.copied) e (HasColours-by L l)
+
   abbrev framed : List ℕ → Parting → Reading → Option (List ℕ)
   framed X D r = option_map (D.frame (context (tables_by s X))) (read_by r SEQUENCES (Some (sequences_of_file X)))
 
@@ -392,9 +454,10 @@ module _ (s : Settings) (is : AreSettings s) where
       let closed = IsClosed-by K arises in
       let read = AreRead-wholes K.copied K.parts (AreRead-by K arises) in
       let has = HasSequences-wholes K.copied K.parts (HasSequences-by K arises) in
+      let colours = HasColours-wholes K.copied K.parts (HasColours-by K arises) in
       subst (λ (Y : List ℕ). (fault_by s Y ≡ None) × (font_by s Y ≡ read_back S)) e (
-        fault_by-file writing asked S closed read has (subst (λ (Y : List ℕ). length Y ≤ MAX_FILE) (sym e) small),
-        font_by-file writing asked S closed read has (λ slot g. refl) (there-written K arises),
+        fault_by-file writing asked S closed read has colours (subst (λ (Y : List ℕ). length Y ≤ MAX_FILE) (sym e) small),
+        font_by-file writing asked S closed read has colours (λ slot g. refl) (there-written K arises),
       )
 
   pub reads-by : (K : Content) (X : List ℕ) → Arises (format_by s) K → Writes (format_by s) K X → length X ≤ MAX_FILE

@@ -63,7 +63,7 @@ module _ (test : ℕ → List ℕ → Bool) (b : Bool) (E D : Parting) (side : S
 -- both sides
 module _ (test : ℕ → List ℕ → Bool) (E P Q : Parting) (one : Side test true E P) (other : Side test false E Q)
     (p : IsParting (λ _ _. false) P) (q : IsParting (λ _ _. false) Q) where
-  kept : (c : Tables) (t : List ℕ) → test (glyph_count c) (E.frame c t) ≡ test (glyph_count c) t
+  pub kept : (c : Tables) (t : List ℕ) → test (glyph_count c) (E.frame c t) ≡ test (glyph_count c) t
   kept c t = elim (cases_Bool (test (glyph_count c) t)) [
     | inl d ↦ ap (test (glyph_count c)) (one.frame c t d) ∙ one.framed c t d ∙ sym d
     | inr d ↦ ap (test (glyph_count c)) (other.frame c t d) ∙ other.framed c t d ∙ sym d

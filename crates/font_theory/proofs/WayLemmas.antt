@@ -80,7 +80,7 @@ module _ {W X : Type 0} (way : Way W X) (IsFront : W → Type 0) (IsSaid : ℕ �
           ∙ says.said g l ∙ cond-true (eqb g g) _ _ (eq-eqb g g refl)
 
   -- what parts say is what is read
-  parts-said : (n : ℕ) (parts : ℕ → List ℕ) (g : ℕ) → IsSaid n (said_by way n parts g)
+  pub parts-said : (n : ℕ) (parts : ℕ → List ℕ) (g : ℕ) → IsSaid n (said_by way n parts g)
   parts-said n parts g = by_test (way.divided n (parts g)) refl
     where
       by_test : (b : Bool) → way.divided n (parts g) ≡ b → IsSaid n (cond b (way.said n (parts g) g) way.nothing)
@@ -309,3 +309,13 @@ module _ {W X : Type 0} (way : Way W X) (IsFront : W → Type 0) (IsSaid : ℕ �
         fits = cond-true (way.divided n t) _ _ d ∙ are.room_same n (said_by way n parts) x said;
         whole = cond-true (way.divided n t) _ _ d ∙ are.made_same n (way.front t) (said_by way n parts) x said;
       }
+
+  -- and their table is made of it, over the frame of a table
+  pub made_of_frame : (c : Tables) (t : List ℕ) (own : ℕ → List ℕ) (x : ℕ → X) → way.divided (glyph_count c) t ≡ true
+      → ((g : ℕ) → g < glyph_count c → IsPartOf way c g (x g) (own g))
+      → (parting_by way).whole c ((parting_by way).frame c t) own ≡ way.made (glyph_count c) (way.front t) x
+  unfolding parting_by
+  made_of_frame c t own x d of =
+      let n = glyph_count c in
+      (makes_of c (frame_in n t) own x (frame-is_divided n t ∙ d) of).whole
+      ∙ ap (λ (f : W). way.made n f x) (ap way.front (frame-divided n t d) ∙ (none-says n t d).front)

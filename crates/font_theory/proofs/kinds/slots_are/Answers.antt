@@ -24,5 +24,7 @@ returns c = (
   refl,
   refl,
   refl,
+  refl,
+  refl,
   slot_tag-kept,
 )
