@@ -5,14 +5,15 @@ use Rattle.std.specs.Prelude.{is_some}
 use Rattle.std.specs.Option.{option_map, option_map_or, option_or}
 use Rattle.sfnt_bytes.specs.Directory.{is_layout_slot}
 use Rattle.sfnt_bytes.specs.declared.directory.TheConstants.{MAX_FILE}
+use Rattle.sfnt_bytes.specs.declared.tag.TheConstants.{CPAL}
 use Rattle.font_theory.specs.Content.{Content, glyph_count, table_in_slot}
 use Rattle.font_theory.specs.Parted.{either_bytes}
 use Rattle.font_theory.specs.declared.kinds.TheConstants.{SEQUENCES}
 use Rattle.font_theory.specs.Parting.{IsPart, Parting, Partition, Tables, context, is_bad_at, parts_of}
 
--- what cuts may read otherwise than it stands in the file: the tables of layout, and variation sequences
+-- what cuts may read otherwise than it stands in the file: the tables of layout, palettes, and variation sequences
 abbrev pub is_read_apart : ℕ → Bool
-is_read_apart slot = is_layout_slot slot || nat_eq slot SEQUENCES
+is_read_apart slot = is_layout_slot slot || nat_eq slot CPAL || nat_eq slot SEQUENCES
 
 -- the partition by which each table is divided in one way, for a slot of which alone is spoken
 abbrev pub alone : Parting → Partition
@@ -72,6 +73,11 @@ abbrev pub IsRoomOf : Parting → ℕ → Content → Content → Bool → Type 
 IsRoomOf D slot C E room =
     (c : Tables) (P Q : ℕ → List ℕ) → AreJoinable D slot C E c P Q → (frame : List ℕ) → c slot ≡ Some frame →
     room ≡ D.fits (context c) frame (either_kept C P Q)
+
+-- the same where there is a table, and room where there is none
+pub record IsRoomFor (D : Parting) (slot : ℕ) (C E : Content) (room : Bool) : Type 0 where
+  pub parts : IsRoomOf D slot C E room
+  pub none : C.copied slot ≡ None → room ≡ true
 
 -- so made, a table has the frame of both contents, and of each glyph the part of the first that keeps it, where these
 -- have room

@@ -1,5 +1,5 @@
 //! All divided tables, one field each: open, and made anew. A new one is a `PartedTable` and its place in each of these.
-//! OpenType 1.9, cmap, Format 14: Unicode variation sequences; gvar; hmtx; post; vmtx.
+//! OpenType 1.9, cmap, Format 14: Unicode variation sequences; COLR; gvar; hmtx; post; vmtx.
 ghost use Rattle.std.specs.Prelude.{◌≡◌, ◌<◌, ◌≤◌, ℕ, List, [], Option, false, true, length, nat_lt, option_copied, unwrap_or, None, Some, IfOk, IsTrue, MatchOption, OnErr};
 ghost use Rattle.std.specs.Option.{option_map, option_or};
 ghost use Rattle.sfnt_bytes.specs.Memory.{IsRefused};
@@ -7,20 +7,21 @@ ghost use Rattle.font_theory.specs.Content.{glyph_count};
 ghost use Rattle.font_theory.specs.Parted.{either_bytes};
 ghost use Rattle.font_theory.specs.Parting.{Tables, frames, may_divide};
 ghost use Rattle.font_write.specs.declared.source.TheConstants.{MAX_TABLE};
-ghost use Rattle.font_theory.specs.Parted.{sequences};
-ghost use Rattle.divided_tables.specs.PartedTable.{IsRoomOf, made_or_laid};
+ghost use Rattle.divided_tables.specs.PartedTable.{made_or_laid};
 ghost use Rattle.font_theory.specs.declared.kinds.TheConstants.{SEQUENCES as SEQUENCE_SLOT};
 ghost use Rattle.divided_tables.specs.HeldSequences.{AreHeldBy};
-ghost use Rattle.divided_tables.specs.DividedTables.{AreFine, AreOpen, AreUnionOf, IsKept, all_laid, count_in, finest, has_parts, has_refused, has_same_parts, made_at, none_made, replaced};
+ghost use Rattle.divided_tables.specs.DividedTables.{AreFine, AreOpen, AreUnionOf, IsKept, IsMisfitOf, all_laid, count_in, finest_by, has_parts, has_refused, has_same_parts, made_at, none_made, replaced};
 
+use crate::colours::{are_colours_fit, colours_frame, colours_kept, colours_united};
 use crate::glyph_variations::GlyphVariations;
 use crate::held_sequences::HeldSequences;
 use crate::metrics::{Across, Down, Metrics};
 use crate::names::Names;
 use crate::parted_table::{OpenFrom, PartedTable, TablesBySlot, TablesOf};
+use divided_colours::Colours;
 use font_theory::SEQUENCES;
 use font_write::Source;
-use sfnt_bytes::{GVAR, HMTX, Memory, NoMemory, POST, VMTX};
+use sfnt_bytes::{COLR, GVAR, HMTX, Memory, NoMemory, POST, VMTX};
 use std::alloc::Allocator;
 use std::marker::Model;
 
@@ -29,6 +30,7 @@ pub struct OpenTables<'t, A: Allocator> {
     across: Metrics<'t, Across>,
     down: Metrics<'t, Down>,
     names: Names,
+    colours: Colours<'t>,
     sequences: HeldSequences<A>,
     varied: GlyphVariations<'t>,
 }
@@ -43,6 +45,7 @@ impl<'t, A: Allocator> Model for OpenTables<'t, A> {
       across = t.across;
       down = t.down;
       names = t.names.count;
+      colours = t.colours;
       sequences = t.sequences;
       varied = t.varied;
     } };
@@ -51,6 +54,7 @@ impl<'t, A: Allocator> Model for OpenTables<'t, A> {
       across = t.across;
       down = t.down;
       names = t.names.count;
+      colours = t.colours;
       sequences = t.sequences;
       varied = t.varied;
     }) };
@@ -62,6 +66,7 @@ impl<'t, A: Allocator> Drop for OpenTables<'t, A> {
             across: _across,
             down: _down,
             names: _names,
+            colours: _colours,
             sequences: _sequences,
             varied: _varied,
         } = self;
@@ -90,10 +95,12 @@ impl<'t, A: Allocator> OpenTables<'t, A> {
         let Some(varied) = GlyphVariations::open(tables) else {
             return None;
         };
+        let colours = Colours::open(tables.table(COLR), tables.glyph_count());
         Some(OpenTables {
             across,
             down,
             names,
+            colours,
             sequences,
             varied,
         })
@@ -118,6 +125,7 @@ impl<'t, A: Allocator> OpenTables<'t, A> {
             || self.down.has(g)
             || self.names.has(g)
             || self.varied.has(g)
+            || self.colours.has(g)
             || self.sequences.has(g)
     }
 
@@ -130,38 +138,49 @@ impl<'t, A: Allocator> OpenTables<'t, A> {
         self.varied.has_none(from, to)
             && self.names.has_none(from, to)
             && self.sequences.has_none(from, to)
+            && self.colours.has_none(from, to)
             && self.across.has_none(from, to)
             && self.down.has_none(from, to)
     }
 
     /// Tells whether a glyph has the same parts in the tables of another font.
     pub fn is_same(&self, other: &OpenTables<'t, A>, g: u16) -> bool
-        requires first { g < count_in self.now }
-        requires second { g < count_in other.now }
+        requires glyph { g < count_in self.now }
+        requires count { count_in self.now ≡ count_in other.now }
         ensures { result ≡ has_same_parts self.now other.now g }
     {
         self.across.is_same(&other.across, g)
             && self.down.is_same(&other.down, g)
             && self.names.is_same(&other.names, g)
             && self.varied.is_same(&other.varied, g)
+            && self.colours.is_same(&other.colours, g)
             && self.sequences.is_same(&other.sequences, g)
     }
 }
 
 impl<'t, A: Allocator> OpenTables<'t, A> {
-    /// Tells whether the parts of two contents have room in the tables of their union. They have in all tables but that of
-    /// variation sequences, of which two parts may have the same selector and code.
-    pub fn fits<K: Source, L: Source>(
+    /// Returns the slot of the first table of a union that has no room for the parts of two contents, if there is one. All
+    /// have but that of colours, whose parts may be too many, and that of variation sequences, of which two parts may have
+    /// the same selector and code. What varies in colours is kept or not.
+    pub fn misfit<K: Source, L: Source>(
         &self,
         other: &OpenTables<'_, A>,
         first: &K,
         second: &L,
-    ) -> bool
+        varies: bool,
+    ) -> Option<usize>
         requires opened { AreOpen (K.content_of first.now).copied self.now }
         requires other_opened { AreOpen (L.content_of second.now).copied other.now }
-        ensures { IsRoomOf sequences SEQUENCE_SLOT (K.content_of first.now) (L.content_of second.now) result }
+        requires count { count_in self.now ≡ count_in other.now }
+        ensures { IsMisfitOf varies (K.content_of first.now) (L.content_of second.now) result }
     {
-        self.sequences.fits(&other.sequences, first, second)
+        if !are_colours_fit(&self.colours, &other.colours, first, second, varies) {
+            return Some(COLR);
+        }
+        if !self.sequences.fits(&other.sequences, first, second) {
+            return Some(SEQUENCES);
+        }
+        None
     }
 }
 
@@ -205,7 +224,12 @@ impl<'t, A: Memory + Copy> OpenTables<'t, A> {
 fn is_divided(slot: usize) -> bool
     ensures { result ≡ may_divide slot }
 {
-    slot == GVAR || slot == HMTX || slot == POST || slot == VMTX || slot == SEQUENCES
+    slot == GVAR
+        || slot == HMTX
+        || slot == POST
+        || slot == VMTX
+        || slot == COLR
+        || slot == SEQUENCES
 }
 
 // Returns the bytes of a vector, where there is one.
@@ -285,6 +309,7 @@ pub struct MadeTables<A: Allocator> {
     hmtx: Option<Vec<u8, A>>,
     post: Option<Vec<u8, A>>,
     vmtx: Option<Vec<u8, A>>,
+    colr: Option<Vec<u8, A>>,
     sequences: Option<Vec<u8, A>>,
 }
 
@@ -300,6 +325,7 @@ impl<A: Allocator> Model for MadeTables<A> {
       hmtx = option_map (λ v. v.items) t.hmtx;
       post = option_map (λ v. v.items) t.post;
       vmtx = option_map (λ v. v.items) t.vmtx;
+      colr = option_map (λ v. v.items) t.colr;
       sequences = option_map (λ v. v.items) t.sequences;
     } };
 
@@ -308,6 +334,7 @@ impl<A: Allocator> Model for MadeTables<A> {
       hmtx = option_map (λ v. v.items) t.hmtx;
       post = option_map (λ v. v.items) t.post;
       vmtx = option_map (λ v. v.items) t.vmtx;
+      colr = option_map (λ v. v.items) t.colr;
       sequences = option_map (λ v. v.items) t.sequences;
     }) };
 }
@@ -319,6 +346,7 @@ impl<A: Allocator> Drop for MadeTables<A> {
             hmtx: _hmtx,
             post: _post,
             vmtx: _vmtx,
+            colr: _colr,
             sequences: _sequences,
         } = self;
     }
@@ -334,6 +362,7 @@ impl<A: Allocator> MadeTables<A> {
             hmtx: None,
             post: None,
             vmtx: None,
+            colr: None,
             sequences: None,
         }
     }
@@ -354,6 +383,9 @@ impl<A: Allocator> MadeTables<A> {
         }
         if slot == VMTX {
             return bytes_of(&self.vmtx);
+        }
+        if slot == COLR {
+            return bytes_of(&self.colr);
         }
         if slot == SEQUENCES {
             return bytes_of(&self.sequences);
@@ -383,6 +415,7 @@ impl<A: Allocator> MadeTables<A> {
             hmtx,
             post,
             vmtx,
+            colr,
             sequences,
         } = self;
         let MadeTables {
@@ -390,6 +423,7 @@ impl<A: Allocator> MadeTables<A> {
             hmtx: made_hmtx,
             post: made_post,
             vmtx: made_vmtx,
+            colr: made_colr,
             sequences: made_sequences,
         } = made;
         MadeTables {
@@ -397,6 +431,7 @@ impl<A: Allocator> MadeTables<A> {
             hmtx: made_or_laid(made_hmtx, hmtx, file.copied(HMTX)),
             post: made_or_laid(made_post, post, file.copied(POST)),
             vmtx: made_or_laid(made_vmtx, vmtx, file.copied(VMTX)),
+            colr: made_or_laid(made_colr, colr, file.copied(COLR)),
             sequences: made_or_laid(made_sequences, sequences, file.copied(SEQUENCES)),
         }
     }
@@ -404,7 +439,7 @@ impl<A: Allocator> MadeTables<A> {
 
 impl<A: Memory + Copy> MadeTables<A> {
     /// Returns the tables that a cut of a content has anew: with the parts of the glyphs that it keeps alone. Where one of
-    /// them is missing, the table of the content serves.
+    /// them is missing, the table of the content serves. What varies in colours is kept or not.
     ///
     /// # Errors
     ///
@@ -413,22 +448,25 @@ impl<A: Memory + Copy> MadeTables<A> {
         alloc: A,
         source: &S,
         tables: &OpenTables<'_, A>,
+        varies: bool,
     ) -> Result<MadeTables<A>, NoMemory>
         requires opened { AreOpen (S.content_of source.now).copied tables.now }
         requires fine { AreFine (S.content_of source.now).copied }
-        ensures tables { IfOk result (IsKept (S.content_of source.now)) }
+        ensures tables { IfOk result (IsKept varies (S.content_of source.now)) }
         ensures memory { OnErr result (IsRefused A.refuses) }
     {
         let hmtx = tables.across.kept(alloc, source)?;
         let post = tables.names.kept(alloc, source)?;
         let vmtx = tables.down.kept(alloc, source)?;
         let gvar = tables.varied.kept(alloc, source)?;
+        let colr = colours_kept(&tables.colours, alloc, source, varies)?;
         let sequences = tables.sequences.kept(alloc, source)?;
         Ok(MadeTables {
             gvar,
             hmtx,
             post,
             vmtx,
+            colr,
             sequences,
         })
     }
@@ -447,44 +485,53 @@ impl<A: Memory + Copy> MadeTables<A> {
         let post = copy_of(alloc, source.copied(POST))?;
         let vmtx = copy_of(alloc, source.copied(VMTX))?;
         let gvar = copy_of(alloc, source.copied(GVAR))?;
+        let colr = copy_of(alloc, source.copied(COLR))?;
         let sequences = copy_of(alloc, source.copied(SEQUENCES))?;
         Ok(MadeTables {
             gvar,
             hmtx,
             post,
             vmtx,
+            colr,
             sequences,
         })
     }
 
-    /// Returns the tables of a content without what they have of single glyphs.
+    /// Returns the tables of a content without what they have of single glyphs. What varies in colours is kept or not.
     ///
     /// # Errors
     ///
     /// `NoMemory` if out of memory.
-    pub fn frames<S: Source>(alloc: A, source: &S) -> Result<MadeTables<A>, NoMemory>
-        requires { AreFine (S.content_of source.now).copied }
+    pub fn frames<S: Source>(
+        alloc: A,
+        source: &S,
+        tables: &OpenTables<'_, A>,
+        varies: bool,
+    ) -> Result<MadeTables<A>, NoMemory>
+        requires opened { AreOpen (S.content_of source.now).copied tables.now }
+        requires fine { AreFine (S.content_of source.now).copied }
         ensures tables { IfOk result (λ t. replaced (S.content_of source.now).copied t
-            ≡ frames finest (S.content_of source.now).copied) }
+            ≡ frames (finest_by varies) (S.content_of source.now).copied) }
         ensures memory { OnErr result (IsRefused A.refuses) }
     {
-        let tables = OpenTables::of(alloc, source)?;
         let hmtx = tables.across.frame(alloc, source)?;
         let post = tables.names.frame(alloc, source)?;
         let vmtx = tables.down.frame(alloc, source)?;
         let gvar = tables.varied.frame(alloc, source)?;
+        let colr = colours_frame(&tables.colours, alloc, source, varies)?;
         let sequences = tables.sequences.frame(alloc, source)?;
         Ok(MadeTables {
             gvar,
             hmtx,
             post,
             vmtx,
+            colr,
             sequences,
         })
     }
 
     /// Returns those tables of the union of two contents that are made anew, and none for a table that is that of the first
-    /// with that of the second laid over it.
+    /// with that of the second laid over it. What varies in colours is kept or not.
     ///
     /// # Errors
     ///
@@ -493,19 +540,23 @@ impl<A: Memory + Copy> MadeTables<A> {
         alloc: A,
         first: &K,
         second: &L,
+        one: &OpenTables<'_, A>,
+        other: &OpenTables<'_, A>,
+        varies: bool,
     ) -> Result<MadeTables<A>, NoMemory>
         requires first { AreFine (K.content_of first.now).copied }
         requires second { AreFine (L.content_of second.now).copied }
+        requires opened { AreOpen (K.content_of first.now).copied one.now }
+        requires other_opened { AreOpen (L.content_of second.now).copied other.now }
         requires count { glyph_count (K.content_of first.now).copied ≡ glyph_count (L.content_of second.now).copied }
-        ensures tables { IfOk result (AreUnionOf (K.content_of first.now) (L.content_of second.now)) }
+        ensures tables { IfOk result (AreUnionOf varies (K.content_of first.now) (L.content_of second.now)) }
         ensures memory { OnErr result (IsRefused A.refuses) }
     {
-        let one = OpenTables::of(alloc, first)?;
-        let other = OpenTables::of(alloc, second)?;
         let hmtx = one.across.united(&other.across, alloc, first, second)?;
         let post = one.names.united(&other.names, alloc, first, second)?;
         let vmtx = one.down.united(&other.down, alloc, first, second)?;
         let gvar = one.varied.united(&other.varied, alloc, first, second)?;
+        let colr = colours_united(&one.colours, &other.colours, alloc, first, second, varies)?;
         let sequences = one
             .sequences
             .united(&other.sequences, alloc, first, second)?;
@@ -514,6 +565,7 @@ impl<A: Memory + Copy> MadeTables<A> {
             hmtx,
             post,
             vmtx,
+            colr,
             sequences,
         })
     }

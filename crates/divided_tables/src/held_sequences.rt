@@ -11,7 +11,7 @@ ghost use Rattle.font_write.specs.declared.source.TheConstants.{MAX_TABLE};
 ghost use Rattle.font_theory.specs.Parted.{sequences};
 ghost use Rattle.font_theory.specs.declared.kinds.TheConstants.{SEQUENCES as SEQUENCE_SLOT};
 ghost use Rattle.divided_tables.specs.HeldSequences.{AreHeldBy, held_parts};
-ghost use Rattle.divided_tables.specs.PartedTable.{IsRoomOf, IsUnionOf, alone};
+ghost use Rattle.divided_tables.specs.PartedTable.{IsRoomFor, IsUnionOf, alone};
 
 use crate::open_sequences::Sequences;
 use crate::parted_table::PartedTable;
@@ -102,7 +102,7 @@ impl<A: Allocator> HeldSequences<A> {
     ) -> bool
         requires opened { AreHeldBy (K.content_of first.now).copied self.now }
         requires other_opened { AreHeldBy (L.content_of second.now).copied other.now }
-        ensures { IsRoomOf sequences SEQUENCE_SLOT (K.content_of first.now) (L.content_of second.now) result }
+        ensures { IsRoomFor sequences SEQUENCE_SLOT (K.content_of first.now) (L.content_of second.now) result }
     {
         match (&self.held, &other.held) {
             (Some(one), Some(another)) => one.fits(another, first, second, SEQUENCES),

@@ -4,6 +4,7 @@
 #![tactic(auto)]
 
 mod all_tables;
+mod colours;
 mod glyph_variations;
 mod held_sequences;
 mod metrics;

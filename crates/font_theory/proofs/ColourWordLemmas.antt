@@ -3,7 +3,7 @@ use Rattle.std.proofs.Common.{◌≡◌, ℕ, ◌<◌, Bool, true, false, cond, 
 use Rattle.std.proofs.Common.{None, Some, is_some, refl, ap, sym, subst, ◌∙◌, inl, inr}
 use Rattle.std.proofs.Math.Path.{fun_ext}
 use Rattle.std.proofs.lemmas.Bool.{both_ways, cases_Bool, cond-false, cond-true}
-use Rattle.colour_tables.specs.LayerLists.{is_layer_table, layers_at}
+use Rattle.colour_tables.specs.LayerLists.{is_layer_table, layers_at, layers_have_room}
 use Rattle.colour_tables.specs.Laws.{IsStored}
 use Rattle.colour_tables.specs.MadeLayers.{layer_table}
 use Rattle.colour_tables.specs.MadePaints.{paint_table}
@@ -22,7 +22,7 @@ use Rattle.font_theory.proofs.ColourTableLemmas.{colour_tables_are, one_side, on
 use Rattle.font_theory.proofs.LayerTableLemmas.{layer_tables_are, layer_way_is}
 use Rattle.font_theory.proofs.PaintTableLemmas.{IsNone, IsSaid, paint_tables_are, still_way_is, varying_way_is}
 use Rattle.font_theory.proofs.SideLemmas.{Side, kept}
-use Rattle.font_theory.proofs.WayLemmas.{cut_says, frame-is_divided, made_of_frame, parts-said, way_parts}
+use Rattle.font_theory.proofs.WayLemmas.{cut_says, frame-is_divided, made_of_frame, makes_of, parts-said, way_parts}
 
 -- what a table says, by its version
 module _ (n : ℕ) (t : List ℕ) (g : ℕ) where
@@ -75,6 +75,12 @@ IsColourPart D c t g x b =
     ((b ≡ []) × (x ≡ no_colour))
     ⊎ ((u : List ℕ) × (D.frame c u ≡ D.frame c t) × (D.part c u g ≡ b) × (said_colour (glyph_count c) u g ≡ x))
 
+-- what is said of n glyphs has room in a table of the version of another; any has where this is not divided
+abbrev pub colours_fit : ℕ → List ℕ → (ℕ → Colour) → Bool
+colours_fit n t x =
+    cond (is_layer_table n t) (layers_have_room n (λ g. (x g).layers))
+    (cond (is_paint_table n t) (colours_have_room n x) true)
+
 -- what is known of a way to divide colour tables, by what it keeps of what varies
 pub record IsColours (D : Parting) (front : List ℕ → Store) : Type 0 where
   pub divides : DividesColours D
@@ -87,6 +93,15 @@ pub record IsColours (D : Parting) (front : List ℕ → Store) : Type 0 where
       (c : Tables) (t : List ℕ) (own : ℕ → List ℕ) (x : ℕ → Colour)
       → ((g : ℕ) → g < glyph_count c → IsColourPart D c t g (x g) (own g))
       → D.whole c (D.frame c t) own ≡ colr_with front x (glyph_count c) t
+  pub fits :
+      (c : Tables) (t : List ℕ) (own : ℕ → List ℕ) (x : ℕ → Colour)
+      → ((g : ℕ) → g < glyph_count c → IsColourPart D c t g (x g) (own g))
+      → D.fits c (D.frame c t) own ≡ colours_fit (glyph_count c) t x
+  pub alike :
+      (c : Tables) (u t : List ℕ) → D.frame c u ≡ D.frame c t
+      → (is_layer_table (glyph_count c) u ≡ is_layer_table (glyph_count c) t)
+      × (is_layer_table (glyph_count c) t ≡ false
+      → is_paint_table (glyph_count c) u ≡ is_paint_table (glyph_count c) t)
   pub said :
       (c : Tables) (t : List ℕ) (keeps : ℕ → Bool) (g : ℕ) → g < glyph_count c
       → said_colour (glyph_count c) (D.whole c (D.frame c t) (kept_parts D c t keeps)) g
@@ -196,6 +211,48 @@ module _ (front : List ℕ → Store) (IsFront : Store → Type 0) (are : IsWay 
           | inr k ↦ whole_of c t own k ∙ sym (made-nothing front x (glyph_count c) t f k)
         ]
   ]
+
+  layers_fit : (c : Tables) (t : List ℕ) (own : ℕ → List ℕ) (x : ℕ → Colour) → is_layer_table (glyph_count c) t ≡ true
+      → ((g : ℕ) → g < glyph_count c → IsColourPart E c t g (x g) (own g))
+      → L.fits c (L.frame c t) own ≡ layers_have_room (glyph_count c) (λ g. (x g).layers)
+  unfolding layer_way
+  layers_fit c t own x d of =
+      (makes_of layer_way (λ _. Unit {0}) (λ _ _. Unit {0}) layer_way_is c (L.frame c t) own (λ g. (x g).layers)
+      (one.framed c t d) (λ g l. layer_part c t g (x g) (own g) d (of g l))).fits
+
+  always_fit : (c : Tables) (t : List ℕ) (own : ℕ → List ℕ) → is_paint_table (glyph_count c) t ≡ false
+      → P.fits c (P.frame c t) own ≡ true
+  unfolding parting_by
+  always_fit c t own f =
+      ap (λ (u : List ℕ). P.fits c u own) (cond-false (is_paint_table (glyph_count c) t) _ _ f)
+      ∙ cond-false (is_paint_table (glyph_count c) t) _ _ f
+
+  fits_by : (c : Tables) (t : List ℕ) (own : ℕ → List ℕ) (x : ℕ → Colour)
+      → ((g : ℕ) → g < glyph_count c → IsColourPart E c t g (x g) (own g))
+      → E.fits c (E.frame c t) own ≡ colours_fit (glyph_count c) t x
+  fits_by c t own x of = elim (cases_Bool (is_layer_table (glyph_count c) t)) [
+    | inl d ↦
+        ap (λ (u : List ℕ). E.fits c u own) (one.frame c t d) ∙ one.fits c (L.frame c t) (one.framed c t d) own
+        ∙ layers_fit c t own x d of ∙ sym (cond-true (is_layer_table (glyph_count c) t) _ _ d)
+    | inr f ↦
+        ap (λ (u : List ℕ). E.fits c u own) (other.frame c t f)
+        ∙ other.fits c (P.frame c t) (other.framed c t f) own
+        ∙ elim (cases_Bool (is_paint_table (glyph_count c) t)) [
+          | inl d ↦
+              (makes_of (paint_way front) IsFront IsSaid are c (P.frame c t) own x (framed_paint c t ∙ d)
+              (λ g l. paint_part c t g (x g) (own g) f d (of g l))).fits
+              ∙ sym (cond-true (is_paint_table (glyph_count c) t) _ _ d)
+          | inr k ↦ always_fit c t own k ∙ sym (cond-false (is_paint_table (glyph_count c) t) _ _ k)
+        ]
+        ∙ sym (cond-false (is_layer_table (glyph_count c) t) _ _ f)
+  ]
+
+  alike_by : (c : Tables) (u t : List ℕ) → E.frame c u ≡ E.frame c t
+      → (is_layer_table (glyph_count c) u ≡ is_layer_table (glyph_count c) t)
+      × (is_layer_table (glyph_count c) t ≡ false
+      → is_paint_table (glyph_count c) u ≡ is_paint_table (glyph_count c) t)
+  alike_by c u t e =
+      let same = divided_alike c u t e in (same, λ f. paint_alike c u t (same ∙ f) f e)
 
   frame_by : (c : Tables) (t : List ℕ) → E.frame c t ≡ colr_with front (λ _. no_colour) (glyph_count c) t
   unfolding parting_by layer_way colr_with either_parting
@@ -310,6 +367,8 @@ module _ (front : List ℕ → Store) (IsFront : Store → Type 0) (are : IsWay 
     frame = frame_by;
     part = part_by;
     made = made_by;
+    fits = fits_by;
+    alike = alike_by;
     said = said_by_cut;
   }
 
