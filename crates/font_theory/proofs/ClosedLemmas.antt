@@ -393,11 +393,11 @@ module _ (s : Settings) (is : AreSettings s) (X : List ℕ) (accepted : fault_by
   abbrev Y : List ℕ
   Y = cut (format_by s) X V
 
-  same_gsub : tables_by s Y GSUB ≡ tables_by s X GSUB
+  pub same_gsub : tables_by s Y GSUB ≡ tables_by s X GSUB
   same_gsub = ap (λ (G : Font). G.copied GSUB) (font_by-cut s is X accepted V small).1
       ∙ reduced-undivided s.partition (content (font_by s X) V) GSUB (is.partition.others GSUB refl)
 
-  same_map : map_of Y ≡ restricted V.codes (map_of X)
+  pub same_map : map_of Y ≡ restricted V.codes (map_of X)
   unfolding reduced
   same_map = ap (λ (G : Font). G.map) (font_by-cut s is X accepted V small).1
 

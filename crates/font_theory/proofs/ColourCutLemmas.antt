@@ -33,7 +33,7 @@ some_is : {A : Type 0} (a b : A) → Some a ≡ Some b → a ≡ b
 some_is a b e = cc
 
 -- whether a glyph is kept
-is_kept_some : (b : Bool) (x : List ℕ) → is_some (when b x) ≡ b
+pub is_kept_some : (b : Bool) (x : List ℕ) → is_some (when b x) ≡ b
 is_kept_some true x = refl
 is_kept_some false x = refl
 

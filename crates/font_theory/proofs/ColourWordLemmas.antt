@@ -22,7 +22,8 @@ use Rattle.font_theory.proofs.ColourTableLemmas.{colour_tables_are, one_side, on
 use Rattle.font_theory.proofs.LayerTableLemmas.{layer_tables_are, layer_way_is}
 use Rattle.font_theory.proofs.PaintTableLemmas.{IsNone, IsSaid, paint_tables_are, still_way_is, varying_way_is}
 use Rattle.font_theory.proofs.SideLemmas.{Side, kept}
-use Rattle.font_theory.proofs.WayLemmas.{cut_says, frame-is_divided, made_of_frame, makes_of, parts-said, way_parts}
+use Rattle.font_theory.proofs.WayLemmas.{cut_says, frame-is_divided, made_of_frame, makes_of, part_nothing}
+use Rattle.font_theory.proofs.WayLemmas.{parts-said, way_parts}
 
 -- what a table says, by its version
 module _ (n : ℕ) (t : List ℕ) (g : ℕ) where
@@ -106,6 +107,9 @@ pub record IsColours (D : Parting) (front : List ℕ → Store) : Type 0 where
       (c : Tables) (t : List ℕ) (keeps : ℕ → Bool) (g : ℕ) → g < glyph_count c
       → said_colour (glyph_count c) (D.whole c (D.frame c t) (kept_parts D c t keeps)) g
       ≡ cond (keeps g) (said_colour (glyph_count c) t g) no_colour
+  pub silent :
+      (c : Tables) (t : List ℕ) (g : ℕ) → g < glyph_count c → D.part c t g ≡ []
+      → said_colour (glyph_count c) t g ≡ no_colour
 
 twice : (b : Bool) → not (not b) ≡ b
 twice true = refl
@@ -361,6 +365,26 @@ module _ (front : List ℕ → Store) (IsFront : Store → Type 0) (are : IsWay 
             ]
       ]
 
+  -- of a glyph without a part nothing is said
+  no_layers_said : (c : Tables) (t : List ℕ) (g : ℕ) → is_layer_table (glyph_count c) t ≡ true → g < glyph_count c
+      → L.part c t g ≡ [] → layers_at t g ≡ None
+  unfolding layer_way
+  no_layers_said c t g d l e = part_nothing layer_way (λ _. Unit {0}) (λ _ _. Unit {0}) layer_way_is c t g d l e
+
+  silent_by : (c : Tables) (t : List ℕ) (g : ℕ) → g < glyph_count c → E.part c t g ≡ []
+      → said_colour (glyph_count c) t g ≡ no_colour
+  silent_by c t g l e = elim (cases_Bool (is_layer_table (glyph_count c) t)) [
+    | inl d ↦
+        said-layers (glyph_count c) t g d
+        ∙ ap layered (no_layers_said c t g d l (sym (one.part c t d g) ∙ e))
+    | inr f ↦ elim (cases_Bool (is_paint_table (glyph_count c) t)) [
+      | inl d ↦
+          said-paints (glyph_count c) t g f d
+          ∙ part_nothing (paint_way front) IsFront IsSaid are c t g d l (sym (other.part c t f g) ∙ e)
+      | inr k ↦ said-nothing (glyph_count c) t g f k
+    ]
+  ]
+
   pub colours_by : DividesColours E → IsColours E front
   colours_by divides = record {
     divides = divides;
@@ -370,6 +394,7 @@ module _ (front : List ℕ → Store) (IsFront : Store → Type 0) (are : IsWay 
     fits = fits_by;
     alike = alike_by;
     said = said_by_cut;
+    silent = silent_by;
   }
 
 pub still-colours : IsColours colours (λ _. no_store)

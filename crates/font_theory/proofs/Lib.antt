@@ -69,3 +69,4 @@ pub mod ColourWordLemmas
 pub mod ColourSettingsLemmas
 pub mod ColourCutLemmas
 pub mod UncolouredLemmas
+pub mod ColourClosedLemmas

@@ -319,3 +319,10 @@ module _ {W X : Type 0} (way : Way W X) (IsFront : W → Type 0) (IsSaid : ℕ �
       let n = glyph_count c in
       (makes_of c (frame_in n t) own x (frame-is_divided n t ∙ d) of).whole
       ∙ ap (λ (f : W). way.made n f x) (ap way.front (frame-divided n t d) ∙ (none-says n t d).front)
+
+  -- of a glyph without a part nothing is said
+  pub part_nothing : (c : Tables) (t : List ℕ) (g : ℕ) → way.divided (glyph_count c) t ≡ true → g < glyph_count c
+      → (parting_by way).part c t g ≡ [] → way.said (glyph_count c) t g ≡ way.nothing
+  unfolding parting_by
+  part_nothing c t g d l e =
+      sym (part-says (glyph_count c) t g d l) ∙ said-none (glyph_count c) g (part_in (glyph_count c) t g) e
