@@ -8,8 +8,10 @@ use Rattle.std.proofs.lemmas.Bool.{leb-true, lt-leb, lt-ltb, ltb-true}
 use Rattle.std.proofs.Common.{get_or}
 use Rattle.std.proofs.lemmas.List.{drop_all}
 use Rattle.sfnt_bytes.specs.Number.{u16_at, u32_at}
-use Rattle.colour_tables.specs.LayerLists.{MAX_LAYERS, are_bases, are_layers, base_count, bases_in, bases_of, bases_offset, depth}
-use Rattle.colour_tables.specs.LayerLists.{has_layer_lists, layer_count, layers_at, layers_have_room, layers_in, layers_of}
+use Rattle.colour_tables.specs.LayerLists.{MAX_LAYERS, are_bases, are_layers, base_count, bases_in, bases_of}
+use Rattle.colour_tables.specs.LayerLists.{bases_offset, depth}
+use Rattle.colour_tables.specs.LayerLists.{has_layer_lists, layer_count, layers_at, layers_have_room, layers_in}
+use Rattle.colour_tables.specs.LayerLists.{layers_of}
 use Rattle.colour_tables.specs.LayerLists.{layers_offset}
 use Rattle.colour_tables.specs.ListedGlyphs.{each_below, sum_below}
 use Rattle.colour_tables.specs.declared.layer.Base.{Base}
@@ -154,7 +156,8 @@ pub layers_each : (n layers from : ℕ) (t : List ℕ) → are_bases n layers fr
 unfolding layers_at
 layers_each n layers from t h =
     let bs = bases_of t in
-    each-same (λ g. are_layers n (layers_at t g)) (λ g. option_map_or (has_layers n t) (pick glyph_of glyph_of g bs) true)
+    each-same (λ g. are_layers n (layers_at t g))
+    (λ g. option_map_or (has_layers n t) (pick glyph_of glyph_of g bs) true)
     n
     (λ g l. mapped (list_all (is_below n)) (layers_of t) (find (λ b. eqb b.glyph g) bs) true
     ∙ ap (λ o. option_map_or (has_layers n t) o true) (found_pick g bs))

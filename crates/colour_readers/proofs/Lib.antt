@@ -10,3 +10,4 @@ pub mod TableLemmas
 pub mod SameLemmas
 pub mod SubtreeLemmas
 pub mod TableTreeLemmas
+pub mod StoreLemmas

@@ -8,16 +8,19 @@ use Rattle.std.specs.Option.{option_and_then, option_map_or}
 use Rattle.std.proofs.lemmas.Bool.{and_parts, cases_lt, false_from_ne_true, le-leb, leb-true, lt-leb, ltb-true}
 use Rattle.std.proofs.lemmas.List.{drop_all}
 use Rattle.sfnt_bytes.specs.Number.{u16_at, u32_at}
-use Rattle.colour_tables.specs.LayerLists.{MAX_LAYERS, are_bases, bases_of, depth, has_layer_lists, layer_count, layers_at, layers_have_room}
+use Rattle.colour_tables.specs.LayerLists.{MAX_LAYERS, are_bases, bases_of, depth, has_layer_lists, layer_count}
+use Rattle.colour_tables.specs.LayerLists.{layers_at, layers_have_room}
 use Rattle.colour_tables.specs.ListedGlyphs.{said_of, sum_below}
-use Rattle.colour_tables.specs.PaintLists.{Clip, are_clips, are_roots, base_list_offset, box_at, clip_list_offset, clip_place}
+use Rattle.colour_tables.specs.PaintLists.{Clip, are_clips, are_roots, base_list_offset, box_at, clip_list_offset}
+use Rattle.colour_tables.specs.PaintLists.{clip_place}
 use Rattle.colour_tables.specs.PaintLists.{clips_in, clips_of, colour_at, colour_size, colours_have_room, count_at}
 use Rattle.colour_tables.specs.PaintLists.{has_paint_lists, paint_at, roots_in, roots_of, tree_in, tree_size, MAX_BYTES}
 use Rattle.colour_tables.specs.Paints.{Tree, place_from, u24_at}
 use Rattle.colour_tables.specs.declared.shape.Kind.TheVariants.{ClipBox, Paint}
 use Rattle.colour_tables.proofs.GlyphLemmas.{sum-same}
 use Rattle.colour_tables.specs.PaintLists.{is_paint_table}
-use Rattle.colour_readers.specs.Rooms.{MAX_ROOM, clips_left, has_colours, has_layers, has_lists, has_room, is_clip, is_root, roots_left}
+use Rattle.colour_readers.specs.Rooms.{MAX_ROOM, clips_left, has_colours, has_layers, has_lists, has_room, is_clip}
+use Rattle.colour_readers.specs.Rooms.{is_root, roots_left}
 use Rattle.colour_readers.specs.Trees.{room_left}
 use Rattle.colour_readers.proofs.FieldLemmas.{AreRows, rows-drop, rows-long, u16-drop, u24-drop, u32-drop}
 use Rattle.colour_readers.proofs.LayerListLemmas.{counts, layers_each, layers_left_is, layers_sum, one_span}
@@ -128,7 +131,8 @@ roots_left_is : (n : ℕ) (t : List ℕ) (room from : ℕ) (rs : List (ℕ × �
     → roots_left n t room from rs ≡ cond (are_roots n t from rs) (left_after (roots_size n t rs) room) None
 roots_left_is n t room from [] = all_left room
 roots_left_is n t room from (r ∷ rs) =
-    split_some (is_root n from r.0) (are_roots n t (r.0 + 1) rs) (tree_in n t Paint r.1) tree_size (roots_size n t rs) room
+    split_some (is_root n from r.0) (are_roots n t (r.0 + 1) rs) (tree_in n t Paint r.1) tree_size
+    (roots_size n t rs) room
     (λ left. roots_left n t left (r.0 + 1) rs) (λ left. roots_left_is n t left (r.0 + 1) rs)
 
 abbrev clips_size : ℕ → List ℕ → List Clip → ℕ
@@ -249,10 +253,12 @@ colours_sum n t b r c =
     let own : ℕ → ℕ = λ g. 4 * depth (layers_at t g) in
     let paints : ℕ → ℕ = λ g. size_in (paint_at n t g) in
     let boxes : ℕ → ℕ = λ g. size_in (box_at n t g) in
-    let first : sum_below (λ g. own g + paints g + boxes g) n ≡ sum_below (λ g. own g + paints g) n + sum_below boxes n =
+    let first : sum_below (λ g. own g + paints g + boxes g) n ≡ sum_below (λ g. own g + paints g) n + sum_below
+    boxes n =
     sum-plus (λ g. own g + paints g) boxes n in
     let second : sum_below (λ g. own g + paints g) n ≡ sum_below own n + sum_below paints n = sum-plus own paints n in
-    let third : sum_below own n ≡ 4 * sum_below (λ g. depth (layers_at t g)) n = sum-four (λ g. depth (layers_at t g)) n in
+    let third : sum_below own n ≡ 4 * sum_below (λ g. depth (layers_at t g)) n = sum-four
+    (λ g. depth (layers_at t g)) n in
     first ∙ omega (arith, second, third, layers_sum n (layer_count t) 0 t b, paints_sum n t r, boxes_sum n t c)
 
 -- what has room

@@ -3,7 +3,8 @@ use Rattle.std.proofs.Common.{refl}
 use Rattle.std.proofs.Common.{Option, None}
 use Rattle.std.proofs.Common.{◌≡◌, ℕ, zero, suc, ◌+◌, ◌<◌, ◌≤◌, true, false, Bool, cond, leb, ltb, ◌&&◌, List, []}
 use Rattle.std.proofs.Common.{◌∷◌, get_or, length, Some, is_some, sym, ap, subst, ◌∙◌, arith, inl, inr}
-use Rattle.std.proofs.lemmas.Bool.{both_ways, and_from, and_left, and_right, cases_lt, le-leb, le-ltb, leb-true, lt-leb, lt-ltb, or_cases}
+use Rattle.std.proofs.lemmas.Bool.{both_ways, and_from, and_left, and_right, cases_lt, le-leb, le-ltb, leb-true, lt-leb}
+use Rattle.std.proofs.lemmas.Bool.{lt-ltb, or_cases}
 use Rattle.codes.specs.Order.{Ascends, AreInOrder}
 use Rattle.codes.proofs.OrderLemmas.{in_order_above, in_order_ascends}
 use Rattle.colour_readers.specs.RowsOf.{IsReached, IsRowOf, LiesPast, row_first, row_last}
@@ -11,7 +12,8 @@ use Rattle.colour_readers.specs.declared.rows.Rows.{Rows}
 use Rattle.colour_readers.proofs.PickLemmas.{Within, pick, pick-before}
 
 module _ {X : Type 0} where
-  in_order : (first last : X → ℕ) (from n : ℕ) (xs : List X) → Within first last from n xs → AreInOrder first last from xs
+  in_order : (first last : X → ℕ) (from n : ℕ) (xs : List X) → Within first last from n xs → AreInOrder first
+      last from xs
   in_order first last from n [] h = tt
   in_order first last from n (x ∷ xs) h =
       let same : last x + 1 ≡ suc (last x) = omega arith in

@@ -1,5 +1,6 @@
 -- Trees of two tables that are the same.
-use Rattle.std.proofs.Common.{◌≡◌, ℕ, zero, suc, ◌+◌, ◌-◌, ◌<◌, true, false, Bool, cond, eqb, List, [], ◌∷◌, drop, get_or}
+use Rattle.std.proofs.Common.{◌≡◌, ℕ, zero, suc, ◌+◌, ◌-◌, ◌<◌, true, false, Bool, cond, eqb, List, [], ◌∷◌, drop}
+use Rattle.std.proofs.Common.{get_or}
 use Rattle.std.proofs.Common.{take, Option, None, Some, is_some, refl, subst, sym, ap, ◌∙◌, arith}
 use Rattle.std.specs.Option.{option_and_then, option_map}
 use Rattle.std.proofs.lemmas.Bool.{both_ways}
@@ -203,7 +204,8 @@ pub below_end : (f g : ℕ → Kind → Option Tree) (xs ys : List (ℕ × Kind)
 below_end f g xs ys p q e h are = are.up (ap (all_trees f) e ∙ sym (ap (all_trees g) h))
 
 -- the trees at a link of both
-pub link_splits : (f g : ℕ → Kind → Option Tree) (layers others : List ℕ) (s : Shape) (at other : ℕ) (b c : List ℕ) (i : ℕ)
+pub link_splits : (f g : ℕ → Kind → Option Tree) (layers others : List ℕ) (s : Shape) (at other : ℕ)
+    (b c : List ℕ) (i : ℕ)
     (x y : ℕ × Kind) (p q : Option Tree) → HasSameFields s b c → i < link_count s b → x ≡ link_at layers s at b i
     → y ≡ link_at others s other c i
     → AreBelow f g (drop i (links_of layers s at b)) (drop i (links_of others s other c)) p q

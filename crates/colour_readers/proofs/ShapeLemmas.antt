@@ -1,6 +1,7 @@
 -- The fields of what offsets lead to, as code reads them.
 use Rattle.std.proofs.Common.{◌≡◌, ℕ, zero, suc, ◌+◌, ◌-◌, ◌*◌, ◌<◌, ◌≤◌, true, Bool, cond, eqb, ltb, not, ◌||◌}
-use Rattle.std.proofs.Common.{List, [], ◌∷◌, drop, get_or, length, take, Option, None, Some, refl, sym, ap, subst, ◌∙◌, arith, inl}
+use Rattle.std.proofs.Common.{List, [], ◌∷◌, drop, get_or, length, take, Option, None, Some, refl, sym, ap, subst, ◌∙◌}
+use Rattle.std.proofs.Common.{arith, inl}
 use Rattle.std.proofs.Common.{◌⊎◌, inr, slice_get}
 use Rattle.std.specs.List.{list_all}
 use Rattle.std.proofs.lemmas.Option.{none-some, same_Some, slice_get-get_or, slice_get_past}

@@ -7,18 +7,23 @@ use Rattle.std.proofs.Common.{IfSome, subst}
 use Rattle.std.proofs.lemmas.List.{get_or-drop}
 use Rattle.sfnt_bytes.specs.Number.{u16_at, u32_at}
 use Rattle.codes.specs.Order.{Ascends}
-use Rattle.colour_tables.specs.LayerLists.{are_bases, base_count, bases_in, bases_of, bases_offset, has_layer_lists, layer_count}
+use Rattle.colour_tables.specs.LayerLists.{are_bases, base_count, bases_in, bases_of, bases_offset, has_layer_lists}
+use Rattle.colour_tables.specs.LayerLists.{layer_count}
 use Rattle.colour_tables.specs.LayerLists.{layers_at, layers_of}
 use Rattle.colour_tables.specs.ListedGlyphs.{said_of}
-use Rattle.colour_tables.specs.PaintLists.{Clip, are_clips, are_roots, base_list_offset, box_at, clip_list_offset, clip_place}
-use Rattle.colour_tables.specs.PaintLists.{clips_in, clips_of, count_at, has_paint_lists, paint_at, roots_in, roots_of, tree_in}
+use Rattle.colour_tables.specs.PaintLists.{Clip, are_clips, are_roots, base_list_offset, box_at, clip_list_offset}
+use Rattle.colour_tables.specs.PaintLists.{clip_place}
+use Rattle.colour_tables.specs.PaintLists.{clips_in, clips_of, count_at, has_paint_lists, paint_at, roots_in, roots_of}
+use Rattle.colour_tables.specs.PaintLists.{tree_in}
 use Rattle.colour_tables.specs.declared.layer.Base.{Base}
 use Rattle.colour_tables.specs.declared.shape.Kind.TheVariants.{ClipBox, Paint}
 use Rattle.colour_readers.specs.RowsOf.{AreRowsAt, IsReached, IsRowOf, LiesPast, row_first, row_last}
 use Rattle.colour_readers.specs.declared.rows.Rows.{Rows}
 use Rattle.colour_readers.proofs.FieldLemmas.{rows-get, rows-long}
-use Rattle.colour_readers.proofs.LayerListLemmas.{base_row, bases-rows, far, found_pick, glyph_of, one_span, within_bases}
-use Rattle.colour_readers.proofs.PaintListLemmas.{clip_row, clips-rows, root_row, roots-rows, within_clips, within_roots}
+use Rattle.colour_readers.proofs.LayerListLemmas.{base_row, bases-rows, far, found_pick, glyph_of, one_span}
+use Rattle.colour_readers.proofs.LayerListLemmas.{within_bases}
+use Rattle.colour_readers.proofs.PaintListLemmas.{clip_row, clips-rows, root_row, roots-rows, within_clips}
+use Rattle.colour_readers.proofs.PaintListLemmas.{within_roots}
 use Rattle.colour_readers.proofs.PickLemmas.{is_in, pick}
 use Rattle.colour_readers.proofs.RowLemmas.{AreRowsOf, no_row, row_found, rows_ascend, rows_past, rows_reached}
 
@@ -45,7 +50,8 @@ bases_are n t r h at =
     λ i l. sym (ap glyph_of (rows-get bases_in base_row 6 bases-rows (base_count t) i (drop list t) no_base
     (omega (arith, l, at.count_is))) ∙ far t list (6 * i) i 0 (list + 0 + 6 * i) (omega arith)) in
     record {
-      within = within_bases n (layer_count t) 0 (bases_of t) (and_parts _ (are_bases n (layer_count t) 0 (bases_of t)) h).1;
+      within = within_bases n (layer_count t) 0 (bases_of t)
+          (and_parts _ (are_bases n (layer_count t) 0 (bases_of t)) h).1;
       count = rows-long bases_in base_row 6 bases-rows (base_count t) (drop list t) ∙ sym at.count_is;
       first_is = λ i l. first_at t list 0 6 0 (base_count t) i r at ∙ glyph i l;
       last_is = λ i l.
@@ -237,7 +243,8 @@ get_first xs rest i x d e =
     let same : i ≡ i + 0 = omega arith in
     ap (λ (k : ℕ). get_or xs k d) same ∙ sym (get_or-drop i xs 0 d) ∙ ap (λ ys. get_or ys 0 d) e
 
-pub paint_placed : (n : ℕ) (t : List ℕ) (r : Rows) (g i glyph place : ℕ) (rest : List (ℕ × ℕ)) → has_paint_lists n t ≡ true
+pub paint_placed : (n : ℕ) (t : List ℕ) (r : Rows) (g i glyph place : ℕ) (rest : List (ℕ × ℕ))
+    → has_paint_lists n t ≡ true
     → AreRowsAt t (u32_at t 14) 4 6 0 (count_at t (u32_at t 14) 0) r → IsRowOf r g i
     → drop i (roots_of t) ≡ (glyph, place) ∷ rest → Some place ≡ said_of g (roots_of t)
 paint_placed n t r g i glyph place rest h at is e =
@@ -257,7 +264,8 @@ pub box_placed : (n : ℕ) (t : List ℕ) (r : Rows) (g i : ℕ) (c : Clip) (res
     → drop i (clips_of t) ≡ c ∷ rest → Some c.place ≡ clip_place g (clips_of t)
 box_placed n t r g i c rest h at is e =
     sym (clip_is g (clips_of t)
-    ∙ ap (option_map (λ c. c.place)) (row_found r clip_first clip_last no_clip n g i (clips_of t) (clips_are n t r h at) is)
+    ∙ ap (option_map (λ c. c.place)) (row_found r clip_first clip_last no_clip n g i (clips_of t)
+    (clips_are n t r h at) is)
     ∙ ap (λ (x : Clip). Some x.place) (get_first (clips_of t) rest i c no_clip e))
 
 pub box_nowhere : (n : ℕ) (t : List ℕ) (r : Rows) (g : ℕ) → has_paint_lists n t ≡ true

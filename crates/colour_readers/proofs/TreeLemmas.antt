@@ -30,13 +30,15 @@ tree_step n t layers d at k =
     by_test b below true s = refl
     by_test b below false s = refl
 
-    step : (n : ℕ) (k : Kind) (at : ℕ) (b : List ℕ) (below : Shape → Option Forest) (o : Option Shape) → shape_of k b ≡ o
+    step : (n : ℕ) (k : Kind) (at : ℕ) (b : List ℕ) (below : Shape → Option Forest) (o : Option Shape)
+        → shape_of k b ≡ o
         → option_and_then (λ s. tree_of n k at b (below s) s) o
         ≡ option_and_then (λ s. option_map (tree_with s b) (below s))
         (option_and_then (λ s. cond (is_there n at k b s) (Some s) None) o)
     step n k at b below None e = refl
     step n k at b below (Some s) e =
-        ap (λ c. cond (not (eqb at 0) && leb (shape_size s) (length b) && c) (option_map (tree_with s b) (below s)) None)
+        ap (λ c. cond (not (eqb at 0) && leb (shape_size s) (length b) && c)
+        (option_map (tree_with s b) (below s)) None)
         (named-same n k b s e)
         ∙ by_test b below (is_there n at k b s) s
 

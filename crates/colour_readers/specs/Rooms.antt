@@ -1,11 +1,13 @@
 -- Words of private contracts and of proofs: no public clause names them.
-use Rattle.std.specs.Prelude.{ℕ, ◌+◌, ◌-◌, ◌*◌, nat_eq, nat_le, nat_lt, Bool, ◌&&◌, ◌||◌, List, [], ◌∷◌, if◌then◌else◌, is_some}
+use Rattle.std.specs.Prelude.{ℕ, ◌+◌, ◌-◌, ◌*◌, nat_eq, nat_le, nat_lt, Bool, ◌&&◌, ◌||◌, List, [], ◌∷◌, if◌then◌else◌}
+use Rattle.std.specs.Prelude.{is_some}
 use Rattle.std.specs.Prelude.{length, slice_index, Option, None, Some}
 use Rattle.std.specs.List.{list_all}
 use Rattle.std.specs.Option.{option_and_then}
 use Rattle.sfnt_bytes.specs.Number.{u16_at}
 use Rattle.colour_tables.specs.LayerLists.{bases_of, has_layer_lists, layers_of}
-use Rattle.colour_tables.specs.PaintLists.{Clip, base_list_offset, clip_list_offset, clips_of, has_list, layer_list_offset}
+use Rattle.colour_tables.specs.PaintLists.{Clip, base_list_offset, clip_list_offset, clips_of, has_list}
+use Rattle.colour_tables.specs.PaintLists.{layer_list_offset}
 use Rattle.colour_tables.specs.PaintLists.{roots_of, tree_in, tree_size}
 use Rattle.colour_tables.specs.declared.shape.Kind.TheVariants.{ClipBox, Paint}
 use Rattle.colour_readers.specs.Trees.{room_left}

@@ -1,5 +1,6 @@
 -- Words of private contracts and of proofs: no public clause names them.
-use Rattle.std.specs.Prelude.{◌≡◌, ℕ, ◌+◌, ◌-◌, nat_eq, nat_le, nat_lt, not, Bool, true, ◌&&◌, List, [], ◌∷◌, drop, length}
+use Rattle.std.specs.Prelude.{◌≡◌, ℕ, ◌+◌, ◌-◌, nat_eq, nat_le, nat_lt, not, Bool, true, ◌&&◌, List, [], ◌∷◌, drop}
+use Rattle.std.specs.Prelude.{length}
 use Rattle.std.specs.Prelude.{slice_index, if◌then◌else◌, Option, None, Some}
 use Rattle.std.specs.Option.{option_and_then, option_map_or}
 use Rattle.sfnt_bytes.specs.Number.{u16_at, u32_at}

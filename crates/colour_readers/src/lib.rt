@@ -4,18 +4,22 @@
 
 mod fields;
 mod glyph_layers;
+mod glyph_names;
 mod layer_lists;
-mod names;
+mod open_colours;
 mod paint_lists;
+mod paint_trees;
 mod rows;
 mod shapes;
+mod stores;
 mod subtrees;
 mod table_tree;
-mod tables;
-mod trees;
+mod varies;
 
 pub use crate::glyph_layers::GlyphLayers;
 pub use crate::layer_lists::is_layer_table;
+pub use crate::open_colours::{LayerTable, PaintTable};
 pub use crate::paint_lists::is_paint_table;
+pub use crate::stores::what_varies;
 pub use crate::table_tree::TableTree;
-pub use crate::tables::{LayerTable, PaintTable};
+pub use crate::varies::Varies;

@@ -10,8 +10,8 @@ ghost use Rattle.colour_readers.specs.Trees.{room_left};
 
 use crate::fields::{byte_at, u16_at, u24_at, u32_at};
 use crate::layer_lists::{has_layer_lists, layers_left};
+use crate::paint_trees::tree_left;
 use crate::shapes::{count_at, place_from};
-use crate::trees::tree_left;
 use colour_tables::Kind;
 
 /// How many bytes a table of version 1 has before its lists.

@@ -6,9 +6,9 @@ ghost use Rattle.colour_tables.specs.Paints.{kinds_below, shape_size, tree_at, w
 ghost use Rattle.colour_readers.specs.Subtrees.{tree_of, trees_after};
 
 use crate::fields::{byte_at, bytes_from};
+use crate::paint_trees::{DEPTH, room_after};
 use crate::shapes::{count_links, link_at, rest_of, shape_at};
 use crate::table_tree::TableTree;
-use crate::trees::{DEPTH, room_after};
 use colour_tables::{Kind, Shape};
 
 // Returns the tree at a place, nested so deep at most.

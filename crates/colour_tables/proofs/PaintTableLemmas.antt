@@ -284,7 +284,7 @@ module _ (n : ℕ) (layers : List (ℕ × List Layer)) (paints boxes : List (ℕ
       λ i. record { index_map = map_is i; store = own_is i }
 
 -- the trees that are listed are of a kind
-listed-formed : (n : ℕ) (k : Kind) (said : ℕ → Option Tree) → ((g : ℕ) → IsRead n k (said g)) → (a m : ℕ)
+pub listed-formed : (n : ℕ) (k : Kind) (said : ℕ → Option Tree) → ((g : ℕ) → IsRead n k (said g)) → (a m : ℕ)
     → AreFormed n MAX_DEPTH k (listed said a m)
 listed-formed n k said are a zero = tt
 listed-formed n k said are a (suc m) =

@@ -15,10 +15,12 @@ use Rattle.colour_tables.specs.Stores.{no_store}
 use Rattle.colour_tables.specs.declared.layer.Layer.{Layer}
 use Rattle.font_theory.specs.LayerTables.{layer_way}
 use Rattle.font_theory.specs.PaintTables.{varying_way}
+use Rattle.font_theory.proofs.ColourTableLemmas.{one_version}
 use Rattle.font_theory.proofs.LayerTableLemmas.{layer_way_is}
 use Rattle.font_theory.proofs.PaintTableLemmas.{IsSaid, varying_way_is}
 use Rattle.font_theory.proofs.WayLemmas.{part-says}
-use Rattle.divided_colours.specs.OpenColours.{AreForms, IsOther, OpenColours, colour_part, part_by, part_of}
+use Rattle.divided_colours.specs.OpenColours.{AreForms, IsLayers, IsOther, IsPaints, OpenColours}
+use Rattle.divided_colours.specs.OpenColours.{colour_part, part_by, part_of}
 
 -- what is said of a glyph, as bytes
 abbrev pub layer_bytes : ℕ → ℕ → Option (List Layer) → List ℕ
@@ -123,18 +125,7 @@ neither (x ∷ p) q none =
     ∙ sym (false_from_ne_true (bytes_eq (x ∷ p) q) (λ e.
     let no : (x ∷ p) ≡ [] = none ((bytes_eq-Decides (x ∷ p) q).0 e) in cc))
 
--- an open table is one of version 0 that is divided, one of version 1, or it has no parts
-pub record IsLayers (o : OpenColours) (l : List ℕ × ℕ) : Type 0 where
-  pub table_is : o.table ≡ Some l.0
-  pub count_is : l.1 ≡ o.count
-  pub read : is_layer_table o.count l.0 ≡ true
-
-pub record IsPaints (o : OpenColours) (p : List ℕ × ℕ) : Type 0 where
-  pub table_is : o.table ≡ Some p.0
-  pub count_is : p.1 ≡ o.count
-  pub read : is_paint_table o.count p.0 ≡ true
-  pub other : is_layer_table o.count p.0 ≡ false
-
+-- an open table that has no parts
 abbrev pub IsBare : OpenColours → Type 0
 IsBare o = (g : ℕ) → part_of o g ≡ []
 
@@ -179,6 +170,21 @@ module _ (o : OpenColours) (n : ℕ) (table : Option (List ℕ)) (layers paints 
           subst (λ (y : Option (List ℕ)). IfSome y (λ t. is_layer_table n t ≡ false)) (sym e)
           (are.layers_are.other none t e)
 
+  pub paints_any : (p : List ℕ × ℕ) → paints ≡ Some p → IsPaints o p
+  paints_any p e =
+      let f = subst (λ (x : Option (List ℕ × ℕ)). IfSome x (λ f. (table ≡ Some f.0) × (f.1 ≡ n)
+      × (is_paint_table n f.0 ≡ true))) e are.paints_are.opened in
+      subst (λ (c : OpenColours). IsPaints c p) is (record {
+        table_is = f.0;
+        count_is = f.1;
+        read = f.2;
+        other = one_version n p.0 f.2;
+      })
+
+  pub unpainted : paints ≡ None → (t : List ℕ) → o.table ≡ Some t → is_paint_table o.count t ≡ false
+  unpainted none = subst (λ (c : OpenColours). (t : List ℕ) → c.table ≡ Some t → is_paint_table c.count t ≡ false) is
+      (are.paints_are.other none)
+
   pub paints_alone : (p : List ℕ × ℕ) → IsOther o → paints ≡ Some p → IsPaints o p
   paints_alone p other e =
       let f = subst (λ (x : Option (List ℕ × ℕ)). IfSome x (λ f. (table ≡ Some f.0) × (f.1 ≡ n)
@@ -195,16 +201,12 @@ module _ (o : OpenColours) (n : ℕ) (table : Option (List ℕ)) (layers paints 
   pub bare_alone : IsOther o → paints ≡ None → IsBare o
   bare_alone other none = λ g. go g o.table refl
     where
-      unread : (t : List ℕ) → o.table ≡ Some t → is_paint_table o.count t ≡ false
-      unread = subst (λ (c : OpenColours). (t : List ℕ) → c.table ≡ Some t → is_paint_table c.count t ≡ false) is
-          (are.paints_are.other none)
-
       go : (g : ℕ) (x : Option (List ℕ)) → o.table ≡ x → part_of o g ≡ []
       go g None e = ap (λ (y : Option (List ℕ)). option_map_or (λ t. colour_part o.count t g) y []) e
       go g (Some t) e =
           ap (λ (y : Option (List ℕ)). option_map_or (λ t. colour_part o.count t g) y []) e
           ∙ as_none o.count t g
-          (subst (λ (y : Option (List ℕ)). IfSome y (λ t. is_layer_table o.count t ≡ false)) e other) (unread t e)
+          (subst (λ (y : Option (List ℕ)). IfSome y (λ t. is_layer_table o.count t ≡ false)) e other) (unpainted none t e)
 
 -- the part of a glyph
 held_part : (o : OpenColours) (t : List ℕ) (g : ℕ) → o.table ≡ Some t → part_of o g ≡ colour_part o.count t g

@@ -1,10 +1,11 @@
--- Where a kind divides tables, each table that there is, is divided as variable cuts divide it.
-use Rattle.std.proofs.Common.{◌≡◌, ◌≢◌, ℕ, ◌<◌, ◌≤◌, false, true, nat_eq, ◌⊎◌, inl, inr, List, length, Option, None}
+-- Where a kind divides tables, each table that there is, is divided as variable cuts divide it, but for what varies in
+-- colours.
+use Rattle.std.proofs.Common.{◌≡◌, ◌≢◌, ℕ, ◌<◌, ◌≤◌, Bool, false, true, cond, nat_eq, nat_lt, [], ◌⊎◌, inl, inr, List, length, Option, None}
 use Rattle.std.proofs.Common.{Some, refl, sym, ◌∙◌, ap, subst}
 use Rattle.std.specs.Option.{option_map, option_map_or}
 use Rattle.std.proofs.lemmas.Bool.{cases_eq, ne_eqb}
 use Rattle.sfnt_bytes.specs.declared.directory.TheConstants.{MAX_FILE}
-use Rattle.sfnt_bytes.specs.declared.tag.TheConstants.{GVAR, HMTX, POST, VMTX}
+use Rattle.sfnt_bytes.specs.declared.tag.TheConstants.{COLR, GVAR, HMTX, POST, VMTX}
 use Rattle.font_theory.specs.Content.{Content, Font, IsFont, glyph_count, is_bad_variations_in, table_in_slot}
 use Rattle.font_theory.specs.Kinds.{Settings, by_metrics, divides_tables, full_settings, layout_settings, lean_settings}
 use Rattle.font_theory.specs.Kinds.{partition_of, reduced, settings, variable_settings}
@@ -20,60 +21,104 @@ use Rattle.font_theory.specs.declared.kinds.Kind.TheVariants.{Full, Layout, Lean
 use Rattle.font_theory.proofs.KindLemmas.{divided-kind, divides}
 use Rattle.font_theory.proofs.PartLemmas.{by_any_slot, good-font, no_slot, parts_of-alike, parts_of-none}
 use Rattle.font_theory.proofs.WordLemmas.{reduced-slot}
-use Rattle.divided_tables.specs.DividedTables.{AreFine, finest, has_refused}
+use Rattle.font_theory.proofs.ColourTableLemmas.{same-part}
+use Rattle.divided_tables.specs.DividedTables.{AreFine, finest, finest_by, has_refused, keeps_varying}
+use Rattle.divided_tables.specs.OpenColours.{colour_parting}
 use Rattle.divided_tables.proofs.MadeLemmas.{not_divided}
 
-by_metrics-same : (slot : ℕ) → slot ≢ GVAR → slot ≢ SEQUENCES → finest slot ≡ by_metrics slot
-by_metrics-same slot other tagged =
+by_metrics-same : (varies : Bool) (slot : ℕ) → slot ≢ GVAR → slot ≢ COLR → slot ≢ SEQUENCES
+    → finest_by varies slot ≡ by_metrics slot
+by_metrics-same varies slot other bare tagged =
     let past = ne_eqb slot SEQUENCES tagged in
+    let colourless = ne_eqb slot COLR bare in
     let f = ne_eqb slot GVAR other in
-    rw (past, f) refl
+    rw (past, colourless, f) refl
+
+-- colours are divided so, or not read
+colours_divided : (k : Kind) → divides_tables k ≡ true
+    → (partition_of k COLR ≡ colour_parting (keeps_varying k)) ⊎ ((settings k).reading COLR ≡ absent)
+unfolding lean_settings layout_settings variable_settings
+colours_divided Full some = cc
+colours_divided Lean some = inr refl
+colours_divided Layout some = inl refl
+colours_divided Variable some = inl refl
+
+-- what varies is of no glyph
+part-same : (slot : ℕ) (c : Tables) (t : List ℕ) (g : ℕ)
+    → (finest_by false slot).part c t g ≡ (finest slot).part c t g
+part-same slot c t g = elim (cases_eq slot COLR) [
+  | inl e ↦
+      ap (λ (s : ℕ). (finest_by false s).part c t g) e ∙ same-part c t g
+      ∙ sym (ap (λ (s : ℕ). (finest s).part c t g) e)
+  | inr bare ↦ let colourless = ne_eqb slot COLR bare in rw colourless refl
+]
+
+pub parts-finest : (varies : Bool) (c : Tables) (slot g : ℕ)
+    → parts_of (finest_by varies) c slot g ≡ parts_of finest c slot g
+unfolding parts_of
+parts-finest true c slot g = refl
+parts-finest false c slot g =
+    λ i. cond (nat_lt g (glyph_count c))
+    (option_map_or (λ t. part-same slot (context c) t g i) (c slot) []) []
 
 module _ (k : Kind) (some : divides_tables k ≡ true) (c : Tables)
     (unread : (slot : ℕ) → (settings k).reading slot ≡ absent → c slot ≡ None) where
-  pub divided_as : (slot : ℕ) → (partition_of k slot ≡ finest slot) ⊎ (c slot ≡ None)
+  -- how tables are divided, as the kind keeps what varies in colours or not
+  abbrev own : Partition
+  own = finest_by (keeps_varying k)
+
+  pub divided_as : (slot : ℕ) → (partition_of k slot ≡ finest_by (keeps_varying k) slot) ⊎ (c slot ≡ None)
   divided_as slot = elim (cases_eq slot GVAR) [
     | inl e ↦ elim (divides k).gvar [
-      | inl d ↦ inl (ap (partition_of k) e ∙ d ∙ sym (ap finest e))
+      | inl d ↦ inl (ap (partition_of k) e ∙ d ∙ sym (ap own e))
       | inr a ↦ inr (ap c e ∙ unread GVAR a)
     ]
-    | inr other ↦ elim (cases_eq slot SEQUENCES) [
-      | inl e ↦ elim (divides k).sequences [
-        | inl d ↦ inl (ap (partition_of k) e ∙ d ∙ sym (ap finest e))
-        | inr a ↦ inr (ap c e ∙ unread SEQUENCES a)
+    | inr other ↦ elim (cases_eq slot COLR) [
+      | inl e ↦ elim (colours_divided k some) [
+        | inl d ↦ inl (ap (partition_of k) e ∙ d ∙ sym (ap own e))
+        | inr a ↦ inr (ap c e ∙ unread COLR a)
       ]
-      | inr tagged ↦ inl (divided-kind k some slot other tagged ∙ sym (by_metrics-same slot other tagged))
+      | inr bare ↦ elim (cases_eq slot SEQUENCES) [
+        | inl e ↦ elim (divides k).sequences [
+          | inl d ↦ inl (ap (partition_of k) e ∙ d ∙ sym (ap own e))
+          | inr a ↦ inr (ap c e ∙ unread SEQUENCES a)
+        ]
+        | inr tagged ↦
+            inl (divided-kind k some slot other bare tagged
+            ∙ sym (by_metrics-same (keeps_varying k) slot other bare tagged))
+      ]
     ]
   ]
 
   pub parts_as : (slot g : ℕ) → parts_of (partition_of k) c slot g ≡ parts_of finest c slot g
   parts_as slot g = elim (divided_as slot) [
-    | inl e ↦ parts_of-alike (partition_of k) finest c slot e g
+    | inl e ↦ parts_of-alike (partition_of k) own c slot e g ∙ parts-finest (keeps_varying k) c slot g
     | inr n ↦ parts_of-none (partition_of k) c slot g n ∙ sym (parts_of-none finest c slot g n)
   ]
 
-  pub frames_as : (slot : ℕ) → frames (partition_of k) c slot ≡ frames finest c slot
+  pub frames_as : (slot : ℕ) → frames (partition_of k) c slot ≡ frames (finest_by (keeps_varying k)) c slot
   unfolding frames
   frames_as slot = elim (divided_as slot) [
     | inl e ↦ (λ i. option_map ((e i).frame (context c)) (c slot))
     | inr n ↦ ap (option_map ((partition_of k slot).frame (context c))) n
-        ∙ sym (ap (option_map ((finest slot).frame (context c))) n)
+        ∙ sym (ap (option_map ((own slot).frame (context c))) n)
   ]
 
   -- so it is with the tables of frames and parts
   pub wholes_as : (parts : ℕ → ℕ → List ℕ) (slot : ℕ)
-      → option_map (λ frame. (finest slot).whole (context c) frame (parts slot)) (c slot)
+      → option_map (λ frame. (finest_by (keeps_varying k) slot).whole (context c) frame (parts slot)) (c slot)
       ≡ wholes (partition_of k) c parts slot
   unfolding wholes
   wholes_as parts slot = elim (divided_as slot) [
     | inl e ↦ (λ i. option_map (λ frame. (sym e i).whole (context c) frame (parts slot)) (c slot))
-    | inr n ↦ ap (option_map (λ frame. (finest slot).whole (context c) frame (parts slot))) n
+    | inr n ↦ ap (option_map (λ frame. (own slot).whole (context c) frame (parts slot))) n
         ∙ sym (ap (option_map (λ frame. (partition_of k slot).whole (context c) frame (parts slot))) n)
   ]
 
   -- and with the room for them
   pub fits_as : (slot : ℕ) (parts : ℕ → ℕ → List ℕ) (frame : List ℕ) → c slot ≡ Some frame
-      → fits_at (partition_of k) c parts slot ≡ (finest slot).fits (context c) frame (parts slot)
+      → fits_at (partition_of k) c parts slot
+      ≡ (finest_by (keeps_varying k) slot).fits (context c) frame (parts slot)
   unfolding fits_at
   fits_as slot parts frame here = elim (divided_as slot) [
     | inl e ↦ (λ i. option_map_or (λ f. (e i).fits (context c) f (parts slot)) (here i) true)
@@ -82,7 +127,8 @@ module _ (k : Kind) (some : divides_tables k ≡ true) (c : Tables)
 
   -- and with the parts of which these are made
   pub parts_part : (slot g : ℕ) (frame b : List ℕ) → c slot ≡ Some frame
-      → IsPart (partition_of k slot) (context c) frame g b → IsPart (finest slot) (context c) frame g b
+      → IsPart (partition_of k slot) (context c) frame g b
+      → IsPart (finest_by (keeps_varying k) slot) (context c) frame g b
   parts_part slot g frame b here part = elim (divided_as slot) [
     | inl e ↦ subst (λ (D : Parting). IsPart D (context c) frame g b) e part
     | inr n ↦ (let no : None ≡ Some frame = sym n ∙ here in cc)
@@ -125,10 +171,10 @@ part_at p is c slot g frame b (inr w) here low = go (cases_option (d slot))
 -- what a cut of such a kind is written of
 pub reduced_as : (k : Kind) → divides_tables k ≡ true → (K : Content)
     → ((slot : ℕ) → (settings k).reading slot ≡ absent → K.copied slot ≡ None) → (slot : ℕ)
-    → (reduced (partition_of k) K).copied slot ≡ (reduced finest K).copied slot
+    → (reduced (partition_of k) K).copied slot ≡ (reduced (finest_by (keeps_varying k)) K).copied slot
 unfolding reduced
 reduced_as k some K unread slot = elim (divided_as k some K.copied unread slot) [
-  | inl e ↦ reduced-slot (partition_of k) finest K slot e
+  | inl e ↦ reduced-slot (partition_of k) (finest_by (keeps_varying k)) K slot e
   | inr n ↦ ap (option_map _) n ∙ sym (ap (option_map _) n)
 ]
 
@@ -136,25 +182,26 @@ abbrev IsWhole : Settings → ℕ → Type 0
 IsWhole s slot = (s.reading slot ≡ absent) ⊎ (s.reading slot ≡ as_it_is)
 
 never_here : {X : Type 0} (slot : ℕ) → may_divide slot ≡ true → nat_eq slot GVAR ≡ false
-    → nat_eq slot HMTX ≡ false → nat_eq slot POST ≡ false → nat_eq slot VMTX ≡ false → nat_eq slot SEQUENCES ≡ false → X
-never_here slot t a b c d e = no_slot (sym (not_divided slot a b c d e) ∙ t)
+    → nat_eq slot HMTX ≡ false → nat_eq slot POST ≡ false → nat_eq slot VMTX ≡ false → nat_eq slot COLR ≡ false
+    → nat_eq slot SEQUENCES ≡ false → X
+never_here slot t a b c d m e = no_slot (sym (not_divided slot a b c d m e) ∙ t)
 
 -- a kind reads the tables that may be divided as they are, or not at all
 pub read_divided : (k : Kind) (slot : ℕ) → may_divide slot ≡ true
     → ((settings k).reading slot ≡ absent) ⊎ ((settings k).reading slot ≡ as_it_is)
 unfolding full_settings lean_settings layout_settings variable_settings
 read_divided Full = by_any_slot (λ slot. may_divide slot ≡ true → IsWhole (settings Full) slot)
-    (λ _. inl refl) (λ _. inr refl) (λ _. inr refl) (λ _. inr refl) (λ _. inl refl)
-    (λ slot a b c d e t. never_here slot t a b c d e)
+    (λ _. inl refl) (λ _. inr refl) (λ _. inr refl) (λ _. inr refl) (λ _. inl refl) (λ _. inl refl)
+    (λ slot a b c d m e t. never_here slot t a b c d m e)
 read_divided Lean = by_any_slot (λ slot. may_divide slot ≡ true → IsWhole (settings Lean) slot)
-    (λ _. inl refl) (λ _. inr refl) (λ _. inr refl) (λ _. inr refl) (λ _. inl refl)
-    (λ slot a b c d e t. never_here slot t a b c d e)
+    (λ _. inl refl) (λ _. inr refl) (λ _. inr refl) (λ _. inr refl) (λ _. inl refl) (λ _. inl refl)
+    (λ slot a b c d m e t. never_here slot t a b c d m e)
 read_divided Layout = by_any_slot (λ slot. may_divide slot ≡ true → IsWhole (settings Layout) slot)
-    (λ _. inl refl) (λ _. inr refl) (λ _. inr refl) (λ _. inr refl) (λ _. inr refl)
-    (λ slot a b c d e t. never_here slot t a b c d e)
+    (λ _. inl refl) (λ _. inr refl) (λ _. inr refl) (λ _. inr refl) (λ _. inr refl) (λ _. inr refl)
+    (λ slot a b c d m e t. never_here slot t a b c d m e)
 read_divided Variable = by_any_slot (λ slot. may_divide slot ≡ true → IsWhole (settings Variable) slot)
-    (λ _. inr refl) (λ _. inr refl) (λ _. inr refl) (λ _. inr refl) (λ _. inr refl)
-    (λ slot a b c d e t. never_here slot t a b c d e)
+    (λ _. inr refl) (λ _. inr refl) (λ _. inr refl) (λ _. inr refl) (λ _. inr refl) (λ _. inr refl)
+    (λ slot a b c d m e t. never_here slot t a b c d m e)
 
 -- an accepted font has no bad table
 pub refused-is : (c : Tables) → has_refused c ≡ is_bad_variations_in c

@@ -1,3 +1,4 @@
+pub mod ColourLemmas
 pub mod EitherLemmas
 pub mod FilledLemmas
 pub mod FourLemmas

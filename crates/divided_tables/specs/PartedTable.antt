@@ -50,6 +50,7 @@ pub record AreJoinable (D : Parting) (slot : ℕ) (C E : Content) (c : Tables) (
   pub first : C.copied slot ≡ option_map (λ frame. D.whole (context c) frame P) (c slot)
   pub second : E.copied slot ≡ option_map (λ frame. D.whole (context c) frame Q) (c slot)
   pub frame_good : (frame : List ℕ) → c slot ≡ Some frame → is_bad_at slot (context c) frame ≡ false
+  pub framed : (frame : List ℕ) → c slot ≡ Some frame → D.frame (context c) frame ≡ frame
   pub first_parts :
       (frame : List ℕ) (g : ℕ) → c slot ≡ Some frame → g < glyph_count c → IsPart D (context c) frame g (P g)
   pub second_parts :

@@ -12,6 +12,7 @@ ghost use Rattle.font_theory.specs.declared.kinds.TheConstants.{SEQUENCES as SEQ
 ghost use Rattle.divided_tables.specs.HeldSequences.{AreHeldBy};
 ghost use Rattle.divided_tables.specs.DividedTables.{AreFine, AreOpen, AreUnionOf, IsKept, IsMisfitOf, all_laid, count_in, finest_by, has_parts, has_refused, has_same_parts, made_at, none_made, replaced};
 
+use crate::copies::copy_of;
 use crate::colours::{are_colours_fit, colours_frame, colours_kept, colours_united};
 use crate::glyph_variations::GlyphVariations;
 use crate::held_sequences::HeldSequences;
@@ -116,6 +117,13 @@ impl<'t, A: Allocator> OpenTables<'t, A> {
         OpenTables::with(tables, HeldSequences::none(tables.glyph_count()))
     }
 
+    /// Returns the table of colours.
+    pub fn colours(&self) -> &Colours<'t>
+        ensures { result.now ≡ self.now.colours }
+    {
+        &self.colours
+    }
+
     /// Tells whether a glyph has a part that is not empty.
     pub fn has(&self, g: u16) -> bool
         requires { g < count_in self.now }
@@ -164,7 +172,7 @@ impl<'t, A: Allocator> OpenTables<'t, A> {
     /// the same selector and code. What varies in colours is kept or not.
     pub fn misfit<K: Source, L: Source>(
         &self,
-        other: &OpenTables<'_, A>,
+        other: &OpenTables<'t, A>,
         first: &K,
         second: &L,
         varies: bool,
@@ -240,20 +248,6 @@ fn bytes_of<A: Allocator>(table: &Option<Vec<u8, A>>) -> Option<&[u8]>
     match table {
         Some(bytes) => Some(bytes.as_slice()),
         None => None,
-    }
-}
-
-// Returns a copy of a table that may be missing.
-fn copy_of<A: Memory>(alloc: A, table: Option<&[u8]>) -> Result<Option<Vec<u8, A>>, NoMemory>
-    ensures table { IfOk result (λ o. option_map (λ v. v.items) o ≡ option_copied table.entry) }
-    ensures memory { OnErr result (IsRefused A.refuses) }
-{
-    match table {
-        None => Ok(None),
-        Some(table) => {
-            let bytes = alloc.copy_of(table)?;
-            Ok(Some(bytes))
-        }
     }
 }
 
@@ -536,12 +530,12 @@ impl<A: Memory + Copy> MadeTables<A> {
     /// # Errors
     ///
     /// `NoMemory` if out of memory.
-    pub fn united<K: Source, L: Source>(
+    pub fn united<'t, K: Source, L: Source>(
         alloc: A,
         first: &K,
         second: &L,
-        one: &OpenTables<'_, A>,
-        other: &OpenTables<'_, A>,
+        one: &OpenTables<'t, A>,
+        other: &OpenTables<'t, A>,
         varies: bool,
     ) -> Result<MadeTables<A>, NoMemory>
         requires first { AreFine (K.content_of first.now).copied }

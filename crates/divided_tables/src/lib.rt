@@ -5,6 +5,7 @@
 
 mod all_tables;
 mod colours;
+mod copies;
 mod glyph_variations;
 mod held_sequences;
 mod metrics;

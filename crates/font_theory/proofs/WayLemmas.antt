@@ -55,7 +55,7 @@ module _ {W X : Type 0} (way : Way W X) (IsFront : W → Type 0) (IsSaid : ℕ �
       by_test false = are.nothing_said n
 
   -- the part of a glyph says what the table says
-  part-says : (n : ℕ) (t : List ℕ) (g : ℕ) → way.divided n t ≡ true → g < n
+  pub part-says : (n : ℕ) (t : List ℕ) (g : ℕ) → way.divided n t ≡ true → g < n
       → cond (way.divided n (part_in n t g)) (way.said n (part_in n t g) g) way.nothing ≡ way.said n t g
   part-says n t g d l =
       ap (λ (b : List ℕ). cond (way.divided n b) (way.said n b g) way.nothing) (part-divided n t g d)

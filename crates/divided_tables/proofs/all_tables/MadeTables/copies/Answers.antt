@@ -9,5 +9,6 @@ returns-clause-tables g c =
     (c.in_ok-hmtx.ensures.table ∙ looked_up (λ b. b.now) c.copied.result _ c.copied.ensures.table)
     (c.in_ok-post.ensures.table ∙ looked_up (λ b. b.now) c.copied-2.result _ c.copied-2.ensures.table)
     (c.in_ok-vmtx.ensures.table ∙ looked_up (λ b. b.now) c.copied-3.result _ c.copied-3.ensures.table)
-    (c.in_ok-sequences.ensures.table ∙ looked_up (λ b. b.now) c.copied-5.result _ c.copied-5.ensures.table)
+    (c.in_ok-colr.ensures.table ∙ looked_up (λ b. b.now) c.copied-5.result _ c.copied-5.ensures.table)
+    (c.in_ok-sequences.ensures.table ∙ looked_up (λ b. b.now) c.copied-6.result _ c.copied-6.ensures.table)
     (λ slot f. refl)

@@ -10,7 +10,8 @@ invariant_of-result g c = record {
   short_hmtx = laid_short _ _ _ _ c.made_or_laid-2.ensures c.made.invariant.short_hmtx c.self.invariant.short_hmtx;
   short_post = laid_short _ _ _ _ c.made_or_laid-3.ensures c.made.invariant.short_post c.self.invariant.short_post;
   short_vmtx = laid_short _ _ _ _ c.made_or_laid-4.ensures c.made.invariant.short_vmtx c.self.invariant.short_vmtx;
-  short_sequences = laid_short _ _ _ _ c.made_or_laid-5.ensures c.made.invariant.short_sequences
+  short_colr = laid_short _ _ _ _ c.made_or_laid-5.ensures c.made.invariant.short_colr c.self.invariant.short_colr;
+  short_sequences = laid_short _ _ _ _ c.made_or_laid-6.ensures c.made.invariant.short_sequences
       c.self.invariant.short_sequences;
 }
 
@@ -24,6 +25,8 @@ returns g c = λ i. record {
       (unwrap_or (looked_up (λ b. b.now) c.copied-3.result _ c.copied-3.ensures.table j) []))) i;
   vmtx = (c.made_or_laid-4.ensures ∙ (λ j. made_or_laid (c.made.view_is j).vmtx (c.self.view_is j).vmtx
       (unwrap_or (looked_up (λ b. b.now) c.copied-4.result _ c.copied-4.ensures.table j) []))) i;
-  sequences = (c.made_or_laid-5.ensures ∙ (λ j. made_or_laid (c.made.view_is j).sequences (c.self.view_is j).sequences
+  colr = (c.made_or_laid-5.ensures ∙ (λ j. made_or_laid (c.made.view_is j).colr (c.self.view_is j).colr
       (unwrap_or (looked_up (λ b. b.now) c.copied-5.result _ c.copied-5.ensures.table j) []))) i;
+  sequences = (c.made_or_laid-6.ensures ∙ (λ j. made_or_laid (c.made.view_is j).sequences (c.self.view_is j).sequences
+      (unwrap_or (looked_up (λ b. b.now) c.copied-6.result _ c.copied-6.ensures.table j) []))) i;
 }

@@ -1,3 +1,4 @@
+use Rattle.divided_tables.proofs.ColourLemmas.{colour_parts_are, colours_in}
 use Rattle.divided_tables.proofs.HeldSequenceLemmas.{held_parts_are}
 use Rattle.divided_tables.proofs.all_tables.OpenTables.with.Goals as goal
 
@@ -10,6 +11,10 @@ returns g c = (
     down_parts = c.in-Some-open.ensures.1;
     names_are = c.in-Some-open-2.ensures.0;
     names_parts = c.in-Some-open-2.ensures.1;
+    colours_are = colours_in (g.B.TablesBySlot.tables_in c.args.tables.now) _ _ _ c.glyph_count.ensures
+        c.table.ensures c.open-colours.ensures;
+    colours_parts = colour_parts_are _ _ (colours_in (g.B.TablesBySlot.tables_in c.args.tables.now) _ _ _
+        c.glyph_count.ensures c.table.ensures c.open-colours.ensures);
     sequences_are = c.requires;
     sequences_parts = held_parts_are _ _ c.requires;
     varied_is = c.in-Some-open-3.ensures.0;

@@ -1,9 +1,0 @@
-use Rattle.colour_readers.proofs.TableLemmas.{roots_ascend, paint_past}
-use Rattle.colour_readers.proofs.tables.has_no_paint.Goals as goal
-
-pub has_no_row-requires : goal.has_no_row-requires
-has_no_row-requires c = roots_ascend c.requires.0 _ _ c.requires.1 c.root_rows-rows.ensures
-
-pub returns : goal.returns
-returns c t n g h low high =
-    paint_past n _ _ _ _ _ h c.root_rows-rows.ensures c.has_no_row.ensures t g low high

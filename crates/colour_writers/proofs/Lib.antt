@@ -1,0 +1,10 @@
+pub mod ListLemmas
+pub mod LayerLemmas
+pub mod WrittenLemmas
+pub mod TreeListLemmas
+pub mod RoomLemmas
+pub mod PlanLemmas
+pub mod TableLemmas
+pub mod LayerTableLemmas
+pub mod PickedLemmas
+pub mod SizeLemmas

@@ -1,0 +1,14 @@
+use Rattle.std.proofs.Common.{◌≡◌, ◌+◌, ◌-◌, ◌≤◌, ◌++◌, length}
+use Rattle.colour_tables.specs.ListedGlyphs.{listed}
+use Rattle.colour_tables.specs.MadePaints.{clip_rows, forest_bytes, forest_layers, forest_of, forest_places, place_rows}
+use Rattle.colour_tables.specs.MadePaints.{root_rows, rooted}
+use Rattle.colour_tables.specs.PaintLists.{forest_size}
+use Rattle.colour_writers.proofs.made_lists.push_trees.Given as goal
+
+abbrev pub invariant-loop-g : goal.invariant-loop-g
+invariant-loop-g g l = record {
+  put : l.made.items ++ forest_bytes l.index (forest_of (listed (g.P.Planted.trees l.picked) l.g (l.n - l.g)))
+      ≡ l.initial.made.items ++ forest_bytes 0 (forest_of (listed (g.P.Planted.trees l.picked) 0 l.n));
+  next : l.index + forest_layers (forest_of (listed (g.P.Planted.trees l.picked) l.g (l.n - l.g)))
+      ≡ forest_layers (forest_of (listed (g.P.Planted.trees l.picked) 0 l.n));
+}

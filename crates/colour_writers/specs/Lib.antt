@@ -1,0 +1,3 @@
+pub mod Picked
+pub mod Inside
+pub mod Plans
