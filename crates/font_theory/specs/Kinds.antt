@@ -168,7 +168,7 @@ unfoldable pub layout_settings : Settings
 layout_settings = record {
   reading =
       λ slot. if is_colour_slot slot || is_never_in_layout slot then absent
-          else if is_layout_slot slot then unvarying else as_it_is;
+      else if is_layout_slot slot then unvarying else as_it_is;
   partition = by_metrics;
   tags = LAYOUT_AND_COLOURS;
   old = current_profile;

@@ -76,10 +76,7 @@ impl Kind {
     pub fn keeps_colours(self) -> bool
         ensures { result ≡ keeps_colours self }
     {
-        match self {
-            Kind::Full | Kind::Lean => false,
-            Kind::Layout | Kind::Variable => true,
-        }
+        matches!(self, Kind::Layout | Kind::Variable)
     }
 }
 
@@ -153,7 +150,7 @@ pub fn colours_are_kept()
 {}
 
 /// The same of colours with what varies, which is in the frame.
-pub fn varying_colours_are_kept()
+pub fn varying_colours_are()
     ensures { (s : Settings) → AreSettings s → (file colr : List ℕ) → table_of file (slot_tag COLR) ≡ Some colr →
         AreColoursOf store_of (with_colours varying_colours s) file colr }
 {}
