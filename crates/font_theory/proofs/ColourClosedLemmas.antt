@@ -1,19 +1,16 @@
 -- What is wanted, closed under links of GSUB and of colours, on cuts.
-use Rattle.std.proofs.Common.{◌≡◌, ℕ, ◌<◌, ◌≤◌, Bool, true, false, cond, nat_lt, ◌&&◌, ◌||◌, ◌⊎◌, inl, inr, List, []}
+use Rattle.std.proofs.Common.{◌≡◌, ℕ, ◌<◌, ◌≤◌, Bool, true, false, cond, nat_lt, ◌&&◌, ◌⊎◌, inl, inr, List, []}
 use Rattle.std.proofs.Common.{◌+◌, ◌∷◌, ◌++◌, length, refl, sym, ◌∙◌, ap, subst, arith, append-nil, Option, Some, None}
 use Rattle.std.proofs.Common.{is_some, unwrap_or}
-use Rattle.std.specs.Bool.{Decides}
 use Rattle.std.specs.List.{Contains}
-use Rattle.std.specs.Option.{option_map, option_map_or}
+use Rattle.std.specs.Option.{option_map}
 use Rattle.std.proofs.Math.Path.{fun_ext}
 use Rattle.std.proofs.lemmas.Bool.{and_from, and_parts, cases_Bool, cases_lt, le-ltb, lt-ltb, ltb-true}
 use Rattle.std.proofs.lemmas.Bool.{or_cases, or_left, or_right}
 use Rattle.std.proofs.lemmas.Bool.Decides.{Decides-like, same_from_decides}
-use Rattle.std.proofs.lemmas.List.Elements.{Contains-append_cases, Contains-append_left, Contains-append_right}
-use Rattle.sfnt_bytes.specs.Lines.{when}
+use Rattle.std.proofs.lemmas.List.Elements.{Contains-append_left}
 use Rattle.sfnt_bytes.specs.declared.directory.TheConstants.{MAX_FILE}
 use Rattle.sfnt_bytes.specs.declared.tag.TheConstants.{COLR, GSUB}
-use Rattle.codes.specs.CharacterMap.{restricted}
 use Rattle.colour_tables.specs.LayerLists.{is_layer_table}
 use Rattle.colour_tables.specs.NamedGlyphs.{colour_names}
 use Rattle.colour_tables.specs.PaintLists.{Colour, is_paint_table, no_colour}
@@ -26,17 +23,17 @@ use Rattle.font_glyph.proofs.FoundLemmas.{any_decides}
 use Rattle.font_theory.specs.Bytes.{padded}
 use Rattle.font_theory.specs.Closed.{NUMBERS, closed, colour_links, colour_links_in, is_start, is_unlinked_colour}
 use Rattle.font_theory.specs.ColourTables.{glyph_colour, said_colour}
-use Rattle.font_theory.specs.Content.{Content, Font, IsFont, Wanted, content, glyph_count, is_kept, is_seed, plain_font}
+use Rattle.font_theory.specs.Content.{Font, IsFont, Wanted, content, glyph_count, is_kept}
 use Rattle.font_theory.specs.Content.{table_in_slot, wanted_within}
-use Rattle.font_theory.specs.Cut.{Format, cut}
+use Rattle.font_theory.specs.Cut.{cut}
 use Rattle.font_theory.specs.Difference.{PARTED}
 use Rattle.font_theory.specs.Kinds.{AreSettings, Settings, fault_by, fault_of, font_by, font_of, format_by, format_of}
-use Rattle.font_theory.specs.Kinds.{full_settings, gsub_bytes, has_record, layout_settings, lean_settings, partition_of}
+use Rattle.font_theory.specs.Kinds.{full_settings, has_record, layout_settings, lean_settings}
 use Rattle.font_theory.specs.Kinds.Reading.{absent}
 use Rattle.font_theory.specs.Kinds.{read_by, reduced, settings, table_in_file, tables_by, tables_of, there_by}
 use Rattle.font_theory.specs.Kinds.{variable_settings}
 use Rattle.font_theory.specs.Links.{links}
-use Rattle.font_theory.specs.Parting.{Parting, Partition, Tables, context, divided, parts_of}
+use Rattle.font_theory.specs.Parting.{Partition, Tables, context, divided, parts_of}
 use Rattle.font_theory.specs.Ways.{kept_parts}
 use Rattle.font_theory.specs.declared.kinds.Kind.{Kind}
 use Rattle.font_theory.specs.declared.kinds.Kind.TheVariants.{Full, Layout, Lean, Variable}
@@ -52,7 +49,7 @@ use Rattle.font_theory.proofs.KindLemmas.{settings-are}
 use Rattle.font_theory.proofs.PartLemmas.{parts_of-at}
 use Rattle.font_theory.proofs.SettingsLemmas.{IsFont-by, format_by-is}
 use Rattle.font_theory.proofs.WantedLemmas.{is_root-there, kept-there}
-use Rattle.font_theory.proofs.WordLemmas.{count-reduced, reduced-undivided}
+use Rattle.font_theory.proofs.WordLemmas.{count-reduced}
 
 -- a table without a byte says nothing
 said-empty : (n g : ℕ) → said_colour n [] g ≡ no_colour
@@ -311,7 +308,8 @@ module _ (s : Settings) (is : AreSettings s) (how : DividesOrNone s) (X : List �
       abbrev wanted_here : Wanted → Wanted
       wanted_here W = record { codes = λ c. V.codes c && W.codes c; glyphs = W.glyphs }
 
-      few_is : (W : Wanted) → (closed all_there (map_of Y) W).glyphs ≡ (closed kept_here (map_of X) (wanted_here W)).glyphs
+      few_is : (W : Wanted)
+          → (closed all_there (map_of Y) W).glyphs ≡ (closed kept_here (map_of X) (wanted_here W)).glyphs
       few_is W =
           (λ i. (closed (same_all i) (same_map s is X accepted V small i) W).glyphs)
           ∙ closed-on kept_here (map_of X) V.codes W

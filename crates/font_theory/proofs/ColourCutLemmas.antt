@@ -1,5 +1,5 @@
 -- The colours of a file, of its frames and parts, and of its cuts.
-use Rattle.std.proofs.Common.{◌≡◌, ℕ, ◌<◌, Bool, true, false, cond, List, [], Option, None, Some, is_some, refl, ap}
+use Rattle.std.proofs.Common.{◌≡◌, ℕ, ◌<◌, Bool, true, false, cond, List, [], None, Some, is_some, refl, ap}
 use Rattle.std.proofs.Common.{subst, sym, ◌∙◌}
 use Rattle.std.specs.Option.{option_map}
 use Rattle.std.proofs.Math.Path.{fun_ext}
@@ -7,15 +7,15 @@ use Rattle.sfnt_bytes.specs.Directory.{slot_tag, table_of}
 use Rattle.sfnt_bytes.specs.Lines.{when}
 use Rattle.sfnt_bytes.specs.declared.tag.TheConstants.{COLR, CPAL}
 use Rattle.font_tables.specs.Fields.{glyph_count_of}
-use Rattle.colour_tables.specs.PaintLists.{Colour, has_colour, no_colour}
+use Rattle.colour_tables.specs.PaintLists.{has_colour, no_colour}
 use Rattle.colour_tables.specs.Stores.{Store, no_store, store_of}
 use Rattle.font_theory.specs.Bytes.{padded}
 use Rattle.font_theory.specs.ColourTables.{colour_alone, colours, colr_with, said_colour, varying_colours}
-use Rattle.font_theory.specs.Content.{Content, Wanted, content, glyph_count, is_kept}
+use Rattle.font_theory.specs.Content.{Wanted, content, glyph_count, is_kept}
 use Rattle.font_theory.specs.Cut.{cut}
 use Rattle.font_theory.specs.Kinds.{AreColoursOf, AreSettings, KeepsColours, Settings, colour_front, fault_by, fault_of}
-use Rattle.font_theory.specs.Kinds.{font_by, font_of, format_by, format_of, keeps_colours, palettes_of_file, reduced}
-use Rattle.font_theory.specs.Kinds.{layout_settings, settings, tables_by, variable_settings, with_colours, with_sequences}
+use Rattle.font_theory.specs.Kinds.{font_by, font_of, format_by, format_of, keeps_colours, reduced}
+use Rattle.font_theory.specs.Kinds.{layout_settings, tables_by, variable_settings, with_colours, with_sequences}
 use Rattle.font_theory.specs.Parting.{Parting, Tables, context, frames}
 use Rattle.font_theory.specs.Ways.{kept_parts}
 use Rattle.font_theory.specs.declared.kinds.Kind.{Kind}

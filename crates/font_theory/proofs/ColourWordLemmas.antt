@@ -1,6 +1,6 @@
 -- What is made of frames and parts of colour tables, and what it says.
 use Rattle.std.proofs.Common.{◌≡◌, ℕ, ◌<◌, Bool, true, false, cond, eqb, nat_lt, not, ◌&&◌, ◌||◌, ◌⊎◌, List, [], length}
-use Rattle.std.proofs.Common.{Option, None, Some, is_some, refl, ap, sym, subst, ◌∙◌, inl, inr}
+use Rattle.std.proofs.Common.{Option, None, Some, is_some, refl, ap, sym, ◌∙◌, inl, inr}
 use Rattle.std.proofs.Math.Path.{fun_ext}
 use Rattle.std.proofs.lemmas.Bool.{both_ways, cases_Bool, cond-false, cond-true, or_right}
 use Rattle.colour_tables.specs.LayerLists.{is_layer_table, layers_at}
@@ -11,16 +11,17 @@ use Rattle.colour_tables.specs.PaintLists.{Colour, colour_at, colours_have_room,
 use Rattle.colour_tables.specs.PaintLists.{no_colour}
 use Rattle.colour_tables.specs.Stores.{Store, no_store, store_of}
 use Rattle.colour_tables.specs.declared.layer.Layer.{Layer}
-use Rattle.font_theory.specs.ColourTables.{DividesColours, colour_alone, colours, colr_with, either_parting, said_colour}
+use Rattle.font_theory.specs.ColourTables.{DividesColours, colour_alone, colours, colr_with, either_parting}
+use Rattle.font_theory.specs.ColourTables.{said_colour}
 use Rattle.font_theory.specs.ColourTables.{varying_colours}
 use Rattle.font_theory.specs.Content.{glyph_count}
 use Rattle.font_theory.specs.LayerTables.{layer_way}
 use Rattle.font_theory.specs.PaintTables.{paint_way, still_way, varying_way}
 use Rattle.font_theory.specs.Parting.{Parting, Tables}
-use Rattle.font_theory.specs.Ways.{IsPartOf, IsWay, Says, alone, kept_parts, parting_by, said_by}
+use Rattle.font_theory.specs.Ways.{IsPartOf, IsWay, kept_parts, parting_by, said_by}
 use Rattle.font_theory.proofs.ColourTableLemmas.{colour_tables_are, one_side, one_version, other_side}
 use Rattle.font_theory.proofs.LayerTableLemmas.{layer_tables_are, layer_way_is}
-use Rattle.font_theory.proofs.PaintTableLemmas.{IsNone, IsSaid, paint_tables_are, still_way_is, varying_way_is}
+use Rattle.font_theory.proofs.PaintTableLemmas.{IsNone, IsSaid, still_way_is, varying_way_is}
 use Rattle.font_theory.proofs.SideLemmas.{Side, kept}
 use Rattle.font_theory.proofs.WayLemmas.{cut_says, frame-is_divided, made_of_frame, part_nothing, parts-said}
 use Rattle.font_theory.proofs.WayLemmas.{way_parts}

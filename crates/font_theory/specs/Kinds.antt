@@ -366,7 +366,8 @@ pub record AreColoursOf (front : List ℕ → Store) (s : Settings) (file colr :
   pub part :
       (g : ℕ) → g < glyph_count_of file → parts_of s.partition (tables_by s file) COLR g
       ≡ (if has_colour (said_colour (glyph_count_of file) colr g)
-      then colr_with (λ _. no_store) (colour_alone (said_colour (glyph_count_of file) colr g) g) (glyph_count_of file) colr
+      then colr_with (λ _. no_store) (colour_alone (said_colour (glyph_count_of file) colr g) g)
+      (glyph_count_of file) colr
       else [])
 
 -- how colours are kept by a cut of a file that keeps these glyphs: `CPAL` is that of the file beside a `COLR`, which
