@@ -20,7 +20,7 @@ use Rattle.font_theory.specs.Cut.{IsCut, our_format}
 use Rattle.font_theory.specs.File.{Writing, adjustment_in, bytes_in_slot, current_writing, file, groups_of_content}
 use Rattle.font_theory.specs.File.{outlines_of, writing_of}
 use Rattle.font_theory.specs.Kinds.{AreSettings, IsKind, Settings, all_undivided, by_metrics, divides_tables, fault_by}
-use Rattle.font_theory.specs.Kinds.{by_variations, keeps_sequences, palettes_of_file}
+use Rattle.font_theory.specs.Kinds.{by_variations, keeps_colours, keeps_sequences, palettes_of_file}
 use Rattle.font_theory.specs.ColourTables.{colours, varying_colours}
 use Rattle.font_theory.specs.Kinds.{fault_of, font_by, font_of, format_by, format_of, full_settings, has_record}
 use Rattle.font_theory.specs.Kinds.{layout_settings, lean_settings, partition_of, plain_reading, read_by, settings}
@@ -383,6 +383,14 @@ sequences_read Full keeps = cc
 sequences_read Lean keeps = cc
 sequences_read Layout keeps = refl
 sequences_read Variable keeps = refl
+
+-- so one that keeps colours
+pub colours_read : (kind : Kind) → keeps_colours kind ≡ true
+    → ((settings kind).reading COLR ≡ as_it_is) × ((settings kind).reading CPAL ≡ as_it_is)
+colours_read Full keeps = cc
+colours_read Lean keeps = cc
+colours_read Layout keeps = (refl, refl)
+colours_read Variable keeps = (refl, refl)
 
 pub kind_is : (kind : Kind) → IsKind (format_of kind) (fault_of kind) (font_of kind) (spelled_by kind)
 kind_is kind = IsKind-by (settings kind) (settings-are kind)
