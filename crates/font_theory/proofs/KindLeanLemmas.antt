@@ -92,7 +92,7 @@ use Rattle.font_theory.proofs.SequencePartLemmas.{good_none}
 abbrev plain : Tables → Tables
 plain c slot = cond (is_made slot) None (c slot)
 
--- a font without tables of layout and of variations is one
+-- a font without tables of layout, of colours and of variations is one
 IsFont-without : (F : Font) → IsFont F → IsFont (without_layout F)
 unfolding glyph_count metric_count
 IsFont-without F ok = record {

@@ -337,7 +337,7 @@ pub record IsWrittenUnion (K L U : Content) : Type 0 where
 abbrev pub kept_data : Font → Wanted → ℕ → List ℕ
 kept_data F wanted g = if is_kept F wanted g then variation_data F.copied g else []
 
--- a font without its tables of layout and of variations
+-- a font without its tables of layout, of colours and of variations
 abbrev pub without_layout : Font → Font
 without_layout F = record {
   copied = λ slot. if is_made slot then None else F.copied slot;

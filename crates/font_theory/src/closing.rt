@@ -44,8 +44,8 @@ pub fn closed_on_cut()
         (record { codes = λ c. V.codes c && W.codes c; glyphs = W.glyphs })).glyphs }
 {}
 
-/// On a cut a kept glyph has the links of colours that it has in the font, and any other has none; and the colours can be
-/// read exactly where those of the font can.
+/// On a cut a kept glyph has the links of colours that it has in the font, and any other has none; and the colours can
+/// be read exactly where those of the font can.
 pub fn colour_links_on_cut()
     ensures links { (kind : Kind) (file : List ℕ) → fault_of kind file ≡ None → (V : Wanted) →
         length (cut (format_of kind) file V) ≤ MAX_FILE → (g : ℕ)
@@ -75,8 +75,8 @@ pub fn closed_with_colours_on_cut()
         (record { codes = λ c. V.codes c && W.codes c; glyphs = W.glyphs })).glyphs) }
 {}
 
-/// A closed cut of a closed cut, of codes and of glyphs that the first closure has, is the closed cut of the font for the
-/// codes in both and for these glyphs.
+/// A closed cut of a closed cut, of codes and of glyphs that the first closure has, is the closed cut of the font for
+/// the codes in both and for these glyphs.
 pub fn closed_on_closed_cut()
     ensures { (kind : Kind) (file : List ℕ) → fault_of kind file ≡ None → (V : Wanted) →
         length (cut (format_of kind) file (closed (all_links kind file) (map_of file) V)) ≤ MAX_FILE → (W : Wanted)
