@@ -43,7 +43,7 @@ use Rattle.font_theory.proofs.ColourCutLemmas.{is_kept_some}
 use Rattle.font_theory.proofs.ColourWordLemmas.{IsColours, is_unlinked, still-colours, varying-colours}
 use Rattle.font_theory.proofs.ContentLemmas.{content-within, seeds-less}
 use Rattle.font_theory.proofs.CutLemmas.{cut-cut}
-use Rattle.font_theory.proofs.DividedLemmas.{IsFont-divided}
+use Rattle.font_theory.proofs.DividedLemmas.{IsFont-divided, is_kept-divided}
 use Rattle.font_theory.proofs.KindFileLemmas.{font_by-cut}
 use Rattle.font_theory.proofs.KindLemmas.{settings-are}
 use Rattle.font_theory.proofs.PartLemmas.{parts_of-at}
@@ -329,37 +329,21 @@ module _ (s : Settings) (is : AreSettings s) (how : DividesOrNone s) (X : List �
     abbrev font_links : ℕ → List ℕ
     font_links g = links (table_in_slot d GSUB) g ++ colour_links_in d g
 
-    module _ (V : Wanted) (small : length (cut (format_by s) X (closed font_links (map_of X) V)) ≤ MAX_FILE)
-        (W : Wanted) (inside : (g : ℕ) → W.glyphs g ≡ true → (closed font_links (map_of X) V).glyphs g ≡ true) where
-      abbrev A : Wanted
-      A = closed font_links (map_of X) V
+    -- of a cut that keeps all that is there of what is wanted
+    module _ (A : Wanted) (small : length (cut (format_by s) X A) ≤ MAX_FILE) (W : Wanted)
+        (keeps_all : (g : ℕ)
+        → (closed font_links (map_of X) (record { codes = λ c. A.codes c && W.codes c; glyphs = W.glyphs })).glyphs g
+        ≡ true → F.there g ≡ true → is_kept F A g ≡ true) where
+      abbrev M : Wanted
+      M = record { codes = λ c. A.codes c && W.codes c; glyphs = W.glyphs }
 
       abbrev C : Wanted
-      C = closed font_links (map_of X) (record { codes = λ c. V.codes c && W.codes c; glyphs = W.glyphs })
-
-      abbrev M : Wanted
-      M = record { codes = λ c. V.codes c && W.codes c; glyphs = W.glyphs }
-
-      start_more : (g : ℕ) → is_start (map_of X) M g ≡ true → Linked font_links (is_start (map_of X) V) NUMBERS g
-      unfolding is_start
-      start_more g h = elim (or_cases _ _ h) [
-        | inl x ↦ start (or_left _ _ (seeds-less F M V ok (λ c y. (and_parts (V.codes c) (W.codes c) y).0) g x))
-        | inr x ↦ (closed-decides font_links (map_of X) V g).0 (inside g x)
-      ]
-
-      more : (g : ℕ) → Linked font_links (is_start (map_of X) M) NUMBERS g
-          → Linked font_links (is_start (map_of X) V) NUMBERS g
-      more g (start h) = start_more g h
-      more g (link {s = x} r low c) = link (more x r) low c
-
-      contained : (g : ℕ) → C.glyphs g ≡ true → A.glyphs g ≡ true
-      contained g h =
-          (closed-decides font_links (map_of X) V g).1 (more g ((closed-decides font_links (map_of X) M g).0 h))
+      C = closed font_links (map_of X) M
 
       enough : (g : ℕ) → C.glyphs g ≡ true → (is_kept F A g ≡ true) ⊎ (colour_links_in d g ≡ [])
       enough g h = elim (links-there g) [
         | inl none ↦ inr none
-        | inr t ↦ inl (kept-there F A ok g (contained g h) t)
+        | inr t ↦ inl (keeps_all g h t)
       ]
 
       abbrev made : List ℕ
@@ -368,16 +352,12 @@ module _ (s : Settings) (is : AreSettings s) (how : DividesOrNone s) (X : List �
       abbrev made_links : ℕ → List ℕ
       made_links g = links (table_in_slot (tables_by s made) GSUB) g ++ colour_links_in (tables_by s made) g
 
-      same_glyphs : (closed made_links (map_of made) W).glyphs ≡ C.glyphs
-      unfolding closed
-      same_glyphs = closed-equal A small W enough
-
       abbrev B : Wanted
       B = record { codes = W.codes; glyphs = C.glyphs }
 
       same_wanted : closed made_links (map_of made) W ≡ B
       unfolding closed
-      same_wanted = λ i. record { codes = W.codes; glyphs = same_glyphs i }
+      same_wanted = λ i. record { codes = W.codes; glyphs = closed-equal A small W enough i }
 
       okD : IsFont (divided p F)
       okD = IsFont-divided p is.partition F ok
@@ -385,9 +365,10 @@ module _ (s : Settings) (is : AreSettings s) (how : DividesOrNone s) (X : List �
       within_cut : content (divided p F) (wanted_within (divided p F) A B) ≡ content (divided p F) C
       unfolding closed
       within_cut =
-          content-within (divided p F) A B C okD (λ c. refl) (λ g _ w t. seed (is_root-there (divided p F) C g w t))
+          content-within (divided p F) A B C okD (λ c. refl)
+          (λ g _ w t. seed (is_root-there (divided p F) C g w t))
           (λ g w t. and_from (is_kept (divided p F) A g) (C.glyphs g)
-          (kept-there (divided p F) A okD g (contained g w) t) w)
+          (ap (λ k. k g) (is_kept-divided p is.partition F A) ∙ keeps_all g w t) w)
 
       pub closed-cut : cut (format_by s) made (closed made_links (map_of made) W) ≡ cut (format_by s) X C
       unfolding format_by
@@ -395,6 +376,33 @@ module _ (s : Settings) (is : AreSettings s) (how : DividesOrNone s) (X : List �
           ap (cut (format_by s) made) same_wanted
           ∙ cut-cut (format_by s) (format_by-is s is) X accepted A made (inl refl) small B
           ∙ ap (format_by s).file within_cut
+
+    -- so of a closed cut
+    module _ (V : Wanted) (W : Wanted)
+        (inside : (g : ℕ) → W.glyphs g ≡ true → (closed font_links (map_of X) V).glyphs g ≡ true) where
+      abbrev N : Wanted
+      N = record { codes = λ c. V.codes c && W.codes c; glyphs = W.glyphs }
+
+      start_more : (g : ℕ) → is_start (map_of X) N g ≡ true → Linked font_links (is_start (map_of X) V) NUMBERS g
+      unfolding is_start
+      start_more g h = elim (or_cases _ _ h) [
+        | inl x ↦ start (or_left _ _ (seeds-less F N V ok (λ c y. (and_parts (V.codes c) (W.codes c) y).0) g x))
+        | inr x ↦ (closed-decides font_links (map_of X) V g).0 (inside g x)
+      ]
+
+      more : (g : ℕ) → Linked font_links (is_start (map_of X) N) NUMBERS g
+          → Linked font_links (is_start (map_of X) V) NUMBERS g
+      more g (start h) = start_more g h
+      more g (link {s = x} r low c) = link (more x r) low c
+
+      contained : (g : ℕ) → (closed font_links (map_of X) N).glyphs g ≡ true
+          → (closed font_links (map_of X) V).glyphs g ≡ true
+      contained g h =
+          (closed-decides font_links (map_of X) V g).1 (more g ((closed-decides font_links (map_of X) N g).0 h))
+
+      pub inside-kept : (g : ℕ) → (closed font_links (map_of X) N).glyphs g ≡ true → F.there g ≡ true
+          → is_kept F (closed font_links (map_of X) V) g ≡ true
+      inside-kept g h t = kept-there F (closed font_links (map_of X) V) ok g (contained g h) t
 
 -- by kinds
 pub links_on_cut : (kind : Kind) (X : List ℕ) → fault_of kind X ≡ None → (V : Wanted)

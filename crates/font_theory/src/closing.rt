@@ -75,10 +75,19 @@ pub fn closed_with_colours_on_cut()
         (record { codes = λ c. V.codes c && W.codes c; glyphs = W.glyphs })).glyphs) }
 {}
 
-/// A closed cut of a closed cut, of codes and of glyphs that the first closure has, is the closed cut of the font for
-/// the codes in both and for these glyphs.
+/// The closed cut of a cut that keeps all glyphs that are there of the closure of what is wanted, of the codes in both, is
+/// the closed cut of the font for that. So is the closed cut of a closed cut, for glyphs that the first closure has.
 pub fn closed_on_closed_cut()
-    ensures { (kind : Kind) (file : List ℕ) → fault_of kind file ≡ None → (V : Wanted) →
+    ensures enough { (kind : Kind) (file : List ℕ) → fault_of kind file ≡ None → (V : Wanted) →
+        length (cut (format_of kind) file V) ≤ MAX_FILE → (W : Wanted)
+        → ((g : ℕ) → (closed (all_links kind file) (map_of file)
+        (record { codes = λ c. V.codes c && W.codes c; glyphs = W.glyphs })).glyphs g ≡ true →
+        (font_of kind file).there g ≡ true → is_kept (font_of kind file) V g ≡ true)
+        → cut (format_of kind) (cut (format_of kind) file V)
+        (closed (all_links kind (cut (format_of kind) file V)) (map_of (cut (format_of kind) file V)) W)
+        ≡ cut (format_of kind) file (closed (all_links kind file) (map_of file)
+        (record { codes = λ c. V.codes c && W.codes c; glyphs = W.glyphs })) }
+    ensures twice { (kind : Kind) (file : List ℕ) → fault_of kind file ≡ None → (V : Wanted) →
         length (cut (format_of kind) file (closed (all_links kind file) (map_of file) V)) ≤ MAX_FILE → (W : Wanted)
         → ((g : ℕ) → W.glyphs g ≡ true → (closed (all_links kind file) (map_of file) V).glyphs g ≡ true)
         → cut (format_of kind) (cut (format_of kind) file (closed (all_links kind file) (map_of file) V))
