@@ -1,5 +1,5 @@
 -- The colours of a file, of its frames and parts, and of its cuts.
-use Rattle.std.proofs.Common.{◌≡◌, ℕ, ◌<◌, Bool, true, false, cond, List, [], Option, None, Some, is_some, refl, ap}
+use Rattle.std.proofs.Common.{◌≡◌, ℕ, ◌<◌, Bool, true, false, cond, List, [], None, Some, is_some, refl, ap}
 use Rattle.std.proofs.Common.{subst, sym, ◌∙◌}
 use Rattle.std.specs.Option.{option_map}
 use Rattle.std.proofs.Math.Path.{fun_ext}
@@ -7,15 +7,15 @@ use Rattle.sfnt_bytes.specs.Directory.{slot_tag, table_of}
 use Rattle.sfnt_bytes.specs.Lines.{when}
 use Rattle.sfnt_bytes.specs.declared.tag.TheConstants.{COLR, CPAL}
 use Rattle.font_tables.specs.Fields.{glyph_count_of}
-use Rattle.colour_tables.specs.PaintLists.{Colour, has_colour, no_colour}
+use Rattle.colour_tables.specs.PaintLists.{has_colour, no_colour}
 use Rattle.colour_tables.specs.Stores.{Store, no_store, store_of}
 use Rattle.font_theory.specs.Bytes.{padded}
 use Rattle.font_theory.specs.ColourTables.{colour_alone, colours, colr_with, said_colour, varying_colours}
-use Rattle.font_theory.specs.Content.{Content, Wanted, content, glyph_count, is_kept}
+use Rattle.font_theory.specs.Content.{Wanted, content, glyph_count, is_kept}
 use Rattle.font_theory.specs.Cut.{cut}
 use Rattle.font_theory.specs.Kinds.{AreColoursOf, AreSettings, KeepsColours, Settings, colour_front, fault_by, fault_of}
-use Rattle.font_theory.specs.Kinds.{font_by, font_of, format_by, format_of, keeps_colours, palettes_of_file, reduced}
-use Rattle.font_theory.specs.Kinds.{layout_settings, settings, tables_by, variable_settings, with_colours, with_sequences}
+use Rattle.font_theory.specs.Kinds.{font_by, font_of, format_by, format_of, keeps_colours, reduced}
+use Rattle.font_theory.specs.Kinds.{layout_settings, partition_of, tables_by, variable_settings, with_colours, with_sequences}
 use Rattle.font_theory.specs.Parting.{Parting, Tables, context, frames}
 use Rattle.font_theory.specs.Ways.{kept_parts}
 use Rattle.font_theory.specs.declared.kinds.Kind.{Kind}
@@ -111,6 +111,13 @@ module _ (D : Parting) (front : List ℕ → Store) (are : IsColours D front) (s
             let same : Some v ≡ Some (whole u) = sym there ∙ table_is ∙ ap (option_map whole) here in
             ap (λ (b : List ℕ). said_colour (glyph_count_of X) b g) (some_is v (whole u) same) ∙ said_is u g low;
       }
+
+-- how a kind that keeps colours divides them
+pub colours-kind : (kind : Kind) → keeps_colours kind ≡ true → IsColours (partition_of kind COLR) (colour_front kind)
+colours-kind Full keeps = cc
+colours-kind Lean keeps = cc
+colours-kind Layout keeps = still-colours
+colours-kind Variable keeps = varying-colours
 
 pub keeps-kind : (kind : Kind) → keeps_colours kind ≡ true → (X : List ℕ) → fault_of kind X ≡ None → (wanted : Wanted)
     → KeepsColours (colour_front kind) (is_kept (font_of kind X) wanted) X (cut (format_of kind) X wanted)

@@ -1,8 +1,8 @@
 -- What is made of frames and parts of colour tables, and what it says.
-use Rattle.std.proofs.Common.{◌≡◌, ℕ, ◌<◌, Bool, true, false, cond, eqb, not, ◌&&◌, ◌||◌, ◌⊎◌, List, [], Option}
-use Rattle.std.proofs.Common.{None, Some, is_some, refl, ap, sym, subst, ◌∙◌, inl, inr}
+use Rattle.std.proofs.Common.{◌≡◌, ℕ, ◌<◌, Bool, true, false, cond, eqb, nat_lt, not, ◌&&◌, ◌||◌, ◌⊎◌, List, [], length}
+use Rattle.std.proofs.Common.{Option, None, Some, is_some, refl, ap, sym, subst, ◌∙◌, inl, inr}
 use Rattle.std.proofs.Math.Path.{fun_ext}
-use Rattle.std.proofs.lemmas.Bool.{both_ways, cases_Bool, cond-false, cond-true}
+use Rattle.std.proofs.lemmas.Bool.{both_ways, cases_Bool, cond-false, cond-true, or_right}
 use Rattle.colour_tables.specs.LayerLists.{is_layer_table, layers_at, layers_have_room}
 use Rattle.colour_tables.specs.Laws.{IsStored}
 use Rattle.colour_tables.specs.MadeLayers.{layer_table}
@@ -11,7 +11,8 @@ use Rattle.colour_tables.specs.PaintLists.{Colour, colour_at, colours_have_room,
 use Rattle.colour_tables.specs.PaintLists.{no_colour}
 use Rattle.colour_tables.specs.Stores.{Store, no_store, store_of}
 use Rattle.colour_tables.specs.declared.layer.Layer.{Layer}
-use Rattle.font_theory.specs.ColourTables.{DividesColours, colour_alone, colours, colr_with, either_parting, said_colour}
+use Rattle.font_theory.specs.ColourTables.{DividesColours, colour_alone, colours, colr_with, either_parting}
+use Rattle.font_theory.specs.ColourTables.{said_colour}
 use Rattle.font_theory.specs.ColourTables.{varying_colours}
 use Rattle.font_theory.specs.Content.{glyph_count}
 use Rattle.font_theory.specs.LayerTables.{layer_way}
@@ -82,6 +83,10 @@ colours_fit n t x =
     cond (is_layer_table n t) (layers_have_room n (λ g. (x g).layers))
     (cond (is_paint_table n t) (colours_have_room n x) true)
 
+-- a table has bytes, and is not divided
+abbrev pub is_unlinked : ℕ → List ℕ → Bool
+is_unlinked n t = nat_lt 0 (length t) && not (is_layer_table n t || is_paint_table n t)
+
 -- what is known of a way to divide colour tables, by what it keeps of what varies
 pub record IsColours (D : Parting) (front : List ℕ → Store) : Type 0 where
   pub divides : DividesColours D
@@ -110,6 +115,14 @@ pub record IsColours (D : Parting) (front : List ℕ → Store) : Type 0 where
   pub silent :
       (c : Tables) (t : List ℕ) (g : ℕ) → g < glyph_count c → D.part c t g ≡ []
       → said_colour (glyph_count c) t g ≡ no_colour
+  pub unlinked :
+      (c : Tables) (t : List ℕ) (keeps : ℕ → Bool)
+      → is_unlinked (glyph_count c) (D.whole c (D.frame c t) (kept_parts D c t keeps))
+      ≡ is_unlinked (glyph_count c) t
+
+and_false : (b : Bool) → (b && false) ≡ false
+and_false true = refl
+and_false false = refl
 
 twice : (b : Bool) → not (not b) ≡ b
 twice true = refl
@@ -171,8 +184,12 @@ module _ (front : List ℕ → Store) (IsFront : Store → Type 0) (are : IsWay 
   layer_part c t g x b d (inl w) = inl (w.0, ap (λ (k : Colour). k.layers) w.1)
   layer_part c t g x b d (inr w) =
       let e = divided_alike c w.0 t w.1 ∙ d in
-      inr (w.0, e, sym (one.part c w.0 e g) ∙ w.2,
-      ap (λ (k : Colour). k.layers) (sym (said-layers (glyph_count c) w.0 g e) ∙ w.3))
+      inr (
+        w.0,
+        e,
+        sym (one.part c w.0 e g) ∙ w.2,
+        ap (λ (k : Colour). k.layers) (sym (said-layers (glyph_count c) w.0 g e) ∙ w.3),
+      )
 
   paint_part : (c : Tables) (t : List ℕ) (g : ℕ) (x : Colour) (b : List ℕ) → is_layer_table (glyph_count c) t ≡ false
       → is_paint_table (glyph_count c) t ≡ true → IsColourPart E c t g x b → IsPartOf (paint_way front) c g x b
@@ -333,6 +350,20 @@ module _ (front : List ℕ → Store) (IsFront : Store → Type 0) (are : IsWay 
   nothing_if true = refl
   nothing_if false = refl
 
+  layers_cut : (c : Tables) (t : List ℕ) (keeps : ℕ → Bool) → is_layer_table (glyph_count c) t ≡ true
+      → E.whole c (E.frame c t) (kept_parts E c t keeps) ≡ L.whole c (L.frame c t) (kept_parts L c t keeps)
+  layers_cut c t keeps d =
+      ap (λ (u : List ℕ). E.whole c u (kept_parts E c t keeps)) (one.frame c t d)
+      ∙ one.whole c (L.frame c t) (one.framed c t d) (kept_parts E c t keeps)
+      ∙ (λ i. L.whole c (L.frame c t) (λ h. cond (keeps h) (one.part c t d h i) []))
+
+  paints_cut : (c : Tables) (t : List ℕ) (keeps : ℕ → Bool) → is_layer_table (glyph_count c) t ≡ false
+      → E.whole c (E.frame c t) (kept_parts E c t keeps) ≡ P.whole c (P.frame c t) (kept_parts P c t keeps)
+  paints_cut c t keeps f =
+      ap (λ (u : List ℕ). E.whole c u (kept_parts E c t keeps)) (other.frame c t f)
+      ∙ other.whole c (P.frame c t) (other.framed c t f) (kept_parts E c t keeps)
+      ∙ (λ i. P.whole c (P.frame c t) (λ h. cond (keeps h) (other.part c t f h i) []))
+
   said_by_cut : (c : Tables) (t : List ℕ) (keeps : ℕ → Bool) (g : ℕ) → g < glyph_count c
       → said_colour (glyph_count c) (E.whole c (E.frame c t) (kept_parts E c t keeps)) g
       ≡ cond (keeps g) (said_colour (glyph_count c) t g) no_colour
@@ -341,17 +372,11 @@ module _ (front : List ℕ → Store) (IsFront : Store → Type 0) (are : IsWay 
         | inl d ↦
             let says = layer_says c t keeps d in
             let cut = L.whole c (L.frame c t) (kept_parts L c t keeps) in
-            ap (λ (u : List ℕ). said_colour (glyph_count c) u g)
-            (ap (λ (u : List ℕ). E.whole c u (kept_parts E c t keeps)) (one.frame c t d)
-            ∙ one.whole c (L.frame c t) (one.framed c t d) (kept_parts E c t keeps)
-            ∙ (λ i. L.whole c (L.frame c t) (λ h. cond (keeps h) (one.part c t d h i) [])))
+            ap (λ (u : List ℕ). said_colour (glyph_count c) u g) (layers_cut c t keeps d)
             ∙ said-layers (glyph_count c) cut g says.0 ∙ ap layered (says.1 g l) ∙ layers_if (keeps g) (layers_at t g)
             ∙ sym (ap (λ (x : Colour). cond (keeps g) x no_colour) (said-layers (glyph_count c) t g d))
         | inr f ↦
-            ap (λ (u : List ℕ). said_colour (glyph_count c) u g)
-            (ap (λ (u : List ℕ). E.whole c u (kept_parts E c t keeps)) (other.frame c t f)
-            ∙ other.whole c (P.frame c t) (other.framed c t f) (kept_parts E c t keeps)
-            ∙ (λ i. P.whole c (P.frame c t) (λ h. cond (keeps h) (other.part c t f h i) [])))
+            ap (λ (u : List ℕ). said_colour (glyph_count c) u g) (paints_cut c t keeps f)
             ∙ elim (cases_Bool (is_paint_table (glyph_count c) t)) [
               | inl d ↦
                   let says = paint_says c t keeps d in
@@ -364,6 +389,31 @@ module _ (front : List ℕ → Store) (IsFront : Store → Type 0) (are : IsWay 
                   ∙ sym (ap (λ (x : Colour). cond (keeps g) x no_colour) (said-nothing (glyph_count c) t g f k))
             ]
       ]
+
+  -- a cut is divided as its table is
+  linked_layers : (n : ℕ) (u : List ℕ) → is_layer_table n u ≡ true → is_unlinked n u ≡ false
+  linked_layers n u d =
+      ap (λ b. nat_lt 0 (length u) && not (b || is_paint_table n u)) d ∙ and_false (nat_lt 0 (length u))
+
+  linked_paints : (n : ℕ) (u : List ℕ) → is_paint_table n u ≡ true → is_unlinked n u ≡ false
+  linked_paints n u d =
+      ap (λ b. nat_lt 0 (length u) && not b) (or_right (is_layer_table n u) _ d) ∙ and_false (nat_lt 0 (length u))
+
+  unlinked_by : (c : Tables) (t : List ℕ) (keeps : ℕ → Bool)
+      → is_unlinked (glyph_count c) (E.whole c (E.frame c t) (kept_parts E c t keeps))
+      ≡ is_unlinked (glyph_count c) t
+  unlinked_by c t keeps = elim (cases_Bool (is_layer_table (glyph_count c) t)) [
+    | inl d ↦
+        ap (is_unlinked (glyph_count c)) (layers_cut c t keeps d)
+        ∙ linked_layers (glyph_count c) _ (layer_says c t keeps d).0 ∙ sym (linked_layers (glyph_count c) t d)
+    | inr f ↦
+        ap (is_unlinked (glyph_count c)) (paints_cut c t keeps f)
+        ∙ elim (cases_Bool (is_paint_table (glyph_count c) t)) [
+          | inl d ↦
+              linked_paints (glyph_count c) _ (paint_says c t keeps d).0 ∙ sym (linked_paints (glyph_count c) t d)
+          | inr k ↦ ap (is_unlinked (glyph_count c)) (whole_of c t (kept_parts P c t keeps) k)
+        ]
+  ]
 
   -- of a glyph without a part nothing is said
   no_layers_said : (c : Tables) (t : List ℕ) (g : ℕ) → is_layer_table (glyph_count c) t ≡ true → g < glyph_count c
@@ -395,6 +445,7 @@ module _ (front : List ℕ → Store) (IsFront : Store → Type 0) (are : IsWay 
     alike = alike_by;
     said = said_by_cut;
     silent = silent_by;
+    unlinked = unlinked_by;
   }
 
 pub still-colours : IsColours colours (λ _. no_store)

@@ -41,7 +41,7 @@ module _ (s : Settings) (is : AreSettings s) where
   abbrev p : Partition
   p = s.partition
 
-  -- a plain reader sees all but the tables of layout and of variations
+  -- a plain reader sees all but the tables of layout, of colours and of variations
   pub font_of-by : (X : List ℕ) → plain_font X ≡ without_layout (font_by s X)
   font_of-by X = font_of-seen X (tables_by s X) (there_by s (tables_by s X) (plain_font X).outline) (tables_by-below s
       is X)

@@ -1,5 +1,6 @@
 -- Lean cuts beside cuts of other kinds, and layout cuts beside variable ones.
-use Rattle.std.proofs.Common.{◌≡◌, ℕ, zero, suc, ◌+◌, ◌-◌, ◌%◌, ◌<◌, ◌≤◌, ◌&&◌, ◌||◌, Bool, true, false, cond, nat_lt, ◌⊎◌}
+use Rattle.std.proofs.Common.{◌≡◌, ℕ, zero, suc, ◌+◌, ◌-◌, ◌%◌, ◌<◌, ◌≤◌, ◌&&◌, ◌||◌, Bool, true, false, cond, nat_lt}
+use Rattle.std.proofs.Common.{◌⊎◌}
 use Rattle.std.proofs.Common.{◌≢◌, inl, inr, nat_eq, List, [], ◌∷◌, find, get_or, length, map, sum, refl, sym, ◌∙◌, ap}
 use Rattle.std.proofs.Common.{subst, arith, Option, Some, None, is_some, unwrap_or}
 use Rattle.std.specs.List.{range_with_len}
@@ -43,7 +44,7 @@ use Rattle.font_theory.specs.Cut.{IsCurrent, Writes, cut, our_format}
 use Rattle.font_theory.specs.Cut.Arises.{of_file}
 use Rattle.font_theory.specs.File.{Writing, current_writing, file, glyf_bytes, groups_of_content, outlines_of}
 use Rattle.font_theory.specs.File.{padded_length, size_of, cmap_of_content, cmap_with_sequences}
-use Rattle.font_theory.specs.Kinds.{AreSettings, HasNothingVarying, Settings, by_metrics, by_variations, fault_by}
+use Rattle.font_theory.specs.Kinds.{AreSettings, HasNothingVarying, Settings, by_metrics, fault_by}
 use Rattle.font_theory.specs.Kinds.{fault_of, font_by, font_of, settings, with_colours, with_sequences, format_by}
 use Rattle.font_theory.specs.Kinds.{layout_settings}
 use Rattle.font_theory.specs.Kinds.{lean_settings, lines_by, read_by, reduced, tables_by, has_record, there_by}
@@ -70,14 +71,14 @@ use Rattle.font_theory.specs.declared.kinds.Kind.TheVariants.{Layout, Variable}
 use Rattle.font_theory.specs.declared.kinds.TheConstants.{SEQUENCES}
 use Rattle.font_theory.proofs.KindLemmas.{AreSettings-layout, AreSettings-lean, AreSettings-variable, DividesAs}
 use Rattle.font_theory.proofs.KindLemmas.{settings-are, file-same, lean_fault-is, tables_by-plain}
-use Rattle.font_theory.proofs.SequenceSettingsLemmas.{AreSettings-sequences, read_there}
+use Rattle.font_theory.proofs.SequenceSettingsLemmas.{read_there}
 use Rattle.font_theory.proofs.LinkLemmas.{is_bad_variations_in-none, never-layout, slot-varies, filled-never}
 use Rattle.font_theory.proofs.PaddedLemmas.{padded-padded}
 use Rattle.font_theory.proofs.PaddingLemmas.{length-padded-is}
 use Rattle.font_theory.proofs.PartLemmas.{by_slot, context-alike, frames-frames, frames-other, frames-undivided}
 use Rattle.font_theory.proofs.PartLemmas.{frames-wholes, glyph_count-alike, good-font, no_slot, parts_of-none}
 use Rattle.font_theory.proofs.PartLemmas.{parts_of-undivided, wholes-other, wholes-undivided, by_any_slot}
-use Rattle.font_theory.proofs.PartedLemmas.{IsPartition-metrics, IsPartition-variations, length-thin_post}
+use Rattle.font_theory.proofs.PartedLemmas.{IsPartition-metrics, length-thin_post}
 use Rattle.font_theory.proofs.PartedLemmas.{other-metrics}
 use Rattle.font_theory.proofs.SettingsLemmas.{IsFont-by, font_fault-by, has_record-nothing, has_record-padded}
 use Rattle.font_theory.proofs.SettingsLemmas.{none_refused, reads-by, there-low, table_in_file-tag, tables_by-below}
@@ -91,7 +92,7 @@ use Rattle.font_theory.proofs.SequencePartLemmas.{good_none}
 abbrev plain : Tables → Tables
 plain c slot = cond (is_made slot) None (c slot)
 
--- a font without tables of layout and of variations is one
+-- a font without tables of layout, of colours and of variations is one
 IsFont-without : (F : Font) → IsFont F → IsFont (without_layout F)
 unfolding glyph_count metric_count
 IsFont-without F ok = record {
@@ -763,7 +764,8 @@ module _ (X : List ℕ) (still : HasNothingVarying X) where
             let here =
             table_in_file-tag X slot (λ e. both_ways _ k (ap is_never_copied e))
             (λ e. both_ways _ f (ap is_colour_slot e)) in
-            ap (read_by (cond (is_never_in_layout slot) absent (cond (is_layout_slot slot) unvarying as_it_is)) slot) here
+            ap (read_by (cond (is_never_in_layout slot) absent (cond (is_layout_slot slot) unvarying as_it_is)) slot)
+            here
             ∙ read_here slot k ∙ sym here
             ∙ sym (ap (λ b. read_by (cond b absent as_it_is) slot (table_in_file X slot)) k)
       ]

@@ -1,5 +1,6 @@
 -- The settings of each kind, and full cuts as those of a plain reader.
-use Rattle.std.proofs.Common.{◌≡◌, ℕ, Bool, true, false, cond, ◌&&◌, ◌||◌, nat_eq, nat_lt, inl, inr, List, [], ◌⊎◌, refl, ◌∙◌}
+use Rattle.std.proofs.Common.{◌≡◌, ℕ, Bool, true, false, cond, ◌&&◌, ◌||◌, nat_eq, nat_lt, inl, inr, List, [], ◌⊎◌}
+use Rattle.std.proofs.Common.{refl, ◌∙◌}
 use Rattle.std.proofs.Common.{sym, ap, subst, ◌∷◌, not, Option, Some, None, ◌≢◌}
 use Rattle.std.specs.Option.{option_map, option_or}
 use Rattle.std.proofs.lemmas.Bool.{both_ways, cases_Bool, cases_eq, false_from_ne_true, leb-false, ne_eqb, or_parts}
@@ -15,15 +16,15 @@ use Rattle.font_file.specs.declared.font_error.FontError.{FontError}
 use Rattle.font_file.specs.declared.font_error.FontError.TheVariants.{BadVariations, Directory}
 use Rattle.font_theory.specs.Content.{Content, content, everything, glyph_count, is_made, is_never_copied, plain_font}
 use Rattle.font_theory.specs.Content.{is_colour_slot, is_never_filled, read_back}
-use Rattle.font_theory.specs.Cut.{Arises, IsCut, our_format}
+use Rattle.font_theory.specs.Cut.{IsCut, our_format}
 use Rattle.font_theory.specs.File.{Writing, adjustment_in, bytes_in_slot, current_writing, file, groups_of_content}
 use Rattle.font_theory.specs.File.{outlines_of, writing_of}
 use Rattle.font_theory.specs.Kinds.{AreSettings, IsKind, Settings, all_undivided, by_metrics, divides_tables, fault_by}
-use Rattle.font_theory.specs.Kinds.{by_variations, keeps_sequences, palettes_of_file}
+use Rattle.font_theory.specs.Kinds.{by_variations, keeps_colours, keeps_sequences, palettes_of_file}
 use Rattle.font_theory.specs.ColourTables.{colours, varying_colours}
 use Rattle.font_theory.specs.Kinds.{fault_of, font_by, font_of, format_by, format_of, full_settings, has_record}
 use Rattle.font_theory.specs.Kinds.{layout_settings, lean_settings, partition_of, plain_reading, read_by, settings}
-use Rattle.font_theory.specs.Kinds.{sequences_of_file, spelled_by, table_in_file, tables_by, tables_of, there_by}
+use Rattle.font_theory.specs.Kinds.{sequences_of_file, spelled_by, table_in_file, tables_by, there_by}
 use Rattle.font_theory.specs.Kinds.{variable_settings, with_sequences}
 use Rattle.font_theory.specs.Kinds.Reading.{absent, as_it_is, unvarying}
 use Rattle.font_theory.specs.Parted.{metrics, nameless, sequences, variations}
@@ -45,7 +46,7 @@ use Rattle.font_theory.proofs.PartedLemmas.{AlwaysFits-metrics, AlwaysFits-undiv
 use Rattle.font_theory.proofs.PartedLemmas.{IsPartition-metrics, IsPartition-undivided, IsPartition-variations}
 use Rattle.font_theory.proofs.PartedLemmas.{other-metrics}
 use Rattle.font_theory.proofs.SequenceSettingsLemmas.{AreSettings-sequences}
-use Rattle.font_theory.proofs.SettingsLemmas.{AreRead-by, IsKind-by, read-cut, means-cut, table_in_file-tag}
+use Rattle.font_theory.proofs.SettingsLemmas.{IsKind-by, read-cut, means-cut, table_in_file-tag}
 use Rattle.font_theory.proofs.SettingsLemmas.{tables_by-below}
 
 plain_read : (slot : ℕ) → is_made slot ≡ false → plain_reading slot ≡ as_it_is
@@ -382,6 +383,14 @@ sequences_read Full keeps = cc
 sequences_read Lean keeps = cc
 sequences_read Layout keeps = refl
 sequences_read Variable keeps = refl
+
+-- so one that keeps colours
+pub colours_read : (kind : Kind) → keeps_colours kind ≡ true
+    → ((settings kind).reading COLR ≡ as_it_is) × ((settings kind).reading CPAL ≡ as_it_is)
+colours_read Full keeps = cc
+colours_read Lean keeps = cc
+colours_read Layout keeps = (refl, refl)
+colours_read Variable keeps = (refl, refl)
 
 pub kind_is : (kind : Kind) → IsKind (format_of kind) (fault_of kind) (font_of kind) (spelled_by kind)
 kind_is kind = IsKind-by (settings kind) (settings-are kind)

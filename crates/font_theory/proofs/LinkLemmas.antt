@@ -1,5 +1,6 @@
 -- What the theory asks of links: there are none without `GSUB`, and `GSUB` alone says what they are.
-use Rattle.std.proofs.Common.{◌≡◌, ◌≢◌, ℕ, ◌<◌, ◌≤◌, true, false, nat_eq, nat_le, nat_lt, inl, inr, List, refl, ap, arith}
+use Rattle.std.proofs.Common.{◌≡◌, ◌≢◌, ℕ, ◌<◌, ◌≤◌, true, false, nat_eq, nat_le, nat_lt, inl, inr, List, refl, ap}
+use Rattle.std.proofs.Common.{arith}
 use Rattle.std.proofs.Common.{Option, Some, None, option_map}
 use Rattle.std.proofs.lemmas.Bool.{and_parts, both_ways, false_from_ne_true, le-leb, leb-true, lt-leb, lt-ltb, ltb-true}
 use Rattle.std.proofs.lemmas.Bool.{eqb-true, ne_eqb, leb-false, or_cases, or_left, or_parts, or_right}
@@ -64,13 +65,17 @@ never-filled slot h other = elim (or_cases _ (nat_le ALL_SLOTS slot) h) [
 pub never-layout : (slot : ℕ) → is_never_copied slot ≡ true → is_never_in_layout slot ≡ true
 never-layout slot h = elim (or_cases _ (nat_le ALL_SLOTS slot) h) [
   | inl one ↦ or_left _ (nat_le FIRST_VARIATION slot) one
-  | inr past ↦ let far = leb-true ALL_SLOTS slot past in or_right _ (nat_le FIRST_VARIATION slot) (le-leb FIRST_VARIATION slot (omega arith))
+  | inr past ↦
+      let far = leb-true ALL_SLOTS slot past in
+      or_right _ (nat_le FIRST_VARIATION slot) (le-leb FIRST_VARIATION slot (omega arith))
 ]
 
 pub never-in_plain : (slot : ℕ) → is_never_in_layout slot ≡ true → is_made slot ≡ true
 never-in_plain slot h = elim (or_cases _ (nat_le FIRST_VARIATION slot) h) [
   | inl one ↦ or_left _ (nat_le 16 slot) one
-  | inr past ↦ let far = leb-true FIRST_VARIATION slot past in or_right _ (nat_le 16 slot) (le-leb 16 slot (omega arith))
+  | inr past ↦
+      let far = leb-true FIRST_VARIATION slot past in
+      or_right _ (nat_le 16 slot) (le-leb 16 slot (omega arith))
 ]
 
 -- so what a plain cut copies a layout one does, and what that copies some cut

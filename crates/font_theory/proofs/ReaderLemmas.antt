@@ -108,7 +108,7 @@ module _ (file : List ℕ) (c : Tables) (there : ℕ → Bool) (below : (slot : 
         sequences = sequences;
       }
 
-  -- of which a plain reader sees all but the tables of layout and of variations
+  -- of which a plain reader sees all but the tables of layout, of colours and of variations
   pub font_of-seen : plain_font file ≡ without_layout (seen file c there)
   font_of-seen = λ i. record {
     copied = λ slot. go slot i;

@@ -456,7 +456,8 @@ module _ (s : Settings) (is : AreSettings s) where
       let has = HasSequences-wholes K.copied K.parts (HasSequences-by K arises) in
       let colours = HasColours-wholes K.copied K.parts (HasColours-by K arises) in
       subst (λ (Y : List ℕ). (fault_by s Y ≡ None) × (font_by s Y ≡ read_back S)) e (
-        fault_by-file writing asked S closed read has colours (subst (λ (Y : List ℕ). length Y ≤ MAX_FILE) (sym e) small),
+        fault_by-file writing asked S closed read has colours
+            (subst (λ (Y : List ℕ). length Y ≤ MAX_FILE) (sym e) small),
         font_by-file writing asked S closed read has colours (λ slot g. refl) (there-written K arises),
       )
 

@@ -137,7 +137,8 @@ module _ (writing : Writing) (K : Content) (head : List ℕ) where
   abbrev own : ℕ → ℕ → List (Option Table)
   own slot n = map (table_in writing K head) (range_with_len slot n)
 
-  -- without tables of layout and of variations, those that stand at the places are those of the slots, in their order
+  -- without tables of layout, of colours and of variations, those that stand at the places are those of the slots, in
+  -- their order
   pub tables_from-plain : IsPlain K.copied → tables_from writing K head 0 ALL_SLOTS
       ≡ said_lines (map (table_in writing K head) (range_with_len 0 16))
   unfolding slot_at bytes_in_slot

@@ -1,20 +1,20 @@
 -- A font without colours has the cuts that it has where none are kept.
-use Rattle.std.proofs.Common.{◌≡◌, ◌≢◌, ℕ, Bool, true, false, cond, ◌&&◌, nat_lt, List, [], Option, Some, None, refl}
+use Rattle.std.proofs.Common.{◌≡◌, ℕ, cond, ◌&&◌, nat_lt, List, [], Option, None, refl}
 use Rattle.std.proofs.Common.{ap, subst, sym, ◌∙◌, inl, inr, is_some}
-use Rattle.std.specs.Option.{option_map, option_map_or}
+use Rattle.std.specs.Option.{option_map}
 use Rattle.std.proofs.Math.Path.{fun_ext}
 use Rattle.std.proofs.lemmas.Bool.{cases_Bool, cases_eq, eqb-true, or_cases}
 use Rattle.sfnt_bytes.specs.Directory.{slot_tag, table_of}
 use Rattle.sfnt_bytes.specs.declared.tag.TheConstants.{COLR, CPAL}
 use Rattle.font_theory.specs.ColourTables.{DividesColours}
-use Rattle.font_theory.specs.Content.{Content, Font, IsFont, Wanted, content, glyph_count, is_bad_variations_in}
+use Rattle.font_theory.specs.Content.{Font, IsFont, Wanted, content, glyph_count, is_bad_variations_in}
 use Rattle.font_theory.specs.Content.{is_colour_slot, plain_font}
 use Rattle.font_theory.specs.Cut.{cut}
 use Rattle.font_theory.specs.File.{current_writing, file}
 use Rattle.font_theory.specs.Kinds.{AreSettings, Settings, fault_by, font_by, format_by, has_record, palettes_of_file}
 use Rattle.font_theory.specs.Kinds.{read_by, reduced, table_in_file, tables_by, there_by, with_colours}
 use Rattle.font_theory.specs.Kinds.Reading.{absent}
-use Rattle.font_theory.specs.Parting.{Parting, Partition, Tables, context, divided, parts_of, undivided_content}
+use Rattle.font_theory.specs.Parting.{Parting, Tables, divided, parts_of, undivided_content}
 use Rattle.font_theory.proofs.ColourSettingsLemmas.{AreSettings-colours, divided_there, read_there}
 use Rattle.font_theory.proofs.ContentLemmas.{content-path}
 use Rattle.font_theory.proofs.DividedLemmas.{reduced-is}
@@ -113,4 +113,5 @@ module _ (D : Parting) (are : DividesColours D) (s : Settings) (is : AreSettings
     cut-uncoloured =
         ap (file current_writing)
         (ap (λ (G : Font). undivided_content t.partition (content (divided t.partition G) A)) same_font
-        ∙ reduced-is t.partition also.partition F ok A ∙ same_content ∙ sym (reduced-is s.partition is.partition F ok A))
+        ∙ reduced-is t.partition also.partition F ok A ∙ same_content
+        ∙ sym (reduced-is s.partition is.partition F ok A))

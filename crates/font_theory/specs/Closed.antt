@@ -1,5 +1,5 @@
--- What is wanted, closed under the links of GSUB and of colours: no cut follows links, so whoever wants shaped text wants
--- what they lead to too.
+-- What is wanted, closed under the links of GSUB and of colours: no cut follows links, so whoever wants shaped text
+-- wants what they lead to too.
 use Rattle.std.specs.Prelude.{ℕ, nat_lt, not, Bool, ◌&&◌, ◌||◌, List, [], ◌++◌, length, Option, if◌then◌else◌}
 use Rattle.sfnt_bytes.specs.Lines.{when}
 use Rattle.sfnt_bytes.specs.declared.tag.TheConstants.{COLR, GSUB}

@@ -41,8 +41,8 @@ said_colour n t g =
     else if is_paint_table n t then colour_at n t g
     else no_colour
 
--- a table made anew in its version, which says this of n glyphs; `front` is what is kept of what varies. One that is not
--- divided is as it is
+-- a table made anew in its version, which says this of n glyphs; `front` is what is kept of what varies. One that is
+-- not divided is as it is
 unfoldable pub colr_with : (List ℕ → Store) → (ℕ → Colour) → ℕ → List ℕ → List ℕ
 colr_with front x n t =
     if is_layer_table n t then layer_table n (λ g. (x g).layers)

@@ -65,7 +65,7 @@ unfoldable pub is_bad_variations_in : (ℕ → Option (List ℕ)) → Bool
 is_bad_variations_in copied =
     option_map_or (λ gvar. is_bad_variations gvar (copied FVAR) (glyph_count copied)) (copied GVAR) false
 
--- no table of layout or of variations is copied
+-- no table of layout, of colours or of variations is copied
 abbrev pub IsPlain : (ℕ → Option (List ℕ)) → Type 0
 IsPlain copied = (slot : ℕ) → is_made slot ≡ true → copied slot ≡ None
 

@@ -168,7 +168,7 @@ unfoldable pub layout_settings : Settings
 layout_settings = record {
   reading =
       λ slot. if is_colour_slot slot || is_never_in_layout slot then absent
-          else if is_layout_slot slot then unvarying else as_it_is;
+      else if is_layout_slot slot then unvarying else as_it_is;
   partition = by_metrics;
   tags = LAYOUT_AND_COLOURS;
   old = current_profile;
@@ -337,7 +337,7 @@ pub record IsWrittenUnion (K L U : Content) : Type 0 where
 abbrev pub kept_data : Font → Wanted → ℕ → List ℕ
 kept_data F wanted g = if is_kept F wanted g then variation_data F.copied g else []
 
--- a font without its tables of layout and of variations
+-- a font without its tables of layout, of colours and of variations
 abbrev pub without_layout : Font → Font
 without_layout F = record {
   copied = λ slot. if is_made slot then None else F.copied slot;
@@ -366,7 +366,8 @@ pub record AreColoursOf (front : List ℕ → Store) (s : Settings) (file colr :
   pub part :
       (g : ℕ) → g < glyph_count_of file → parts_of s.partition (tables_by s file) COLR g
       ≡ (if has_colour (said_colour (glyph_count_of file) colr g)
-      then colr_with (λ _. no_store) (colour_alone (said_colour (glyph_count_of file) colr g) g) (glyph_count_of file) colr
+      then colr_with (λ _. no_store) (colour_alone (said_colour (glyph_count_of file) colr g) g)
+      (glyph_count_of file) colr
       else [])
 
 -- how colours are kept by a cut of a file that keeps these glyphs: `CPAL` is that of the file beside a `COLR`, which

@@ -3,10 +3,10 @@ ghost use Rattle.std.specs.Prelude.{◌≡◌, ℕ, ◌≤◌, ◌↔◌, ◌⊎
 ghost use Rattle.sfnt_bytes.specs.declared.directory.TheConstants.{MAX_FILE};
 ghost use Rattle.font_glyph.specs.Linked.{Linked};
 ghost use Rattle.font_file.specs.Font.{map_of};
-ghost use Rattle.font_theory.specs.Closed.{NUMBERS, all_links, closed, colour_links, is_start, linked_content};
+ghost use Rattle.font_theory.specs.Closed.{NUMBERS, all_links, closed, colour_links, is_start, is_unlinked_colour, linked_content};
 ghost use Rattle.font_theory.specs.Content.{CODES, Wanted, either_wanted, is_kept, of_codes};
 ghost use Rattle.font_theory.specs.Cut.{CanJoin, cut, joined};
-ghost use Rattle.font_theory.specs.Kinds.{fault_of, font_of, format_of, gsub_bytes, settings};
+ghost use Rattle.font_theory.specs.Kinds.{fault_of, font_of, format_of, gsub_bytes, settings, tables_of};
 ghost use Rattle.font_theory.specs.Links.{links};
 ghost use Rattle.font_theory.specs.declared.kinds.Kind.{Kind};
 
@@ -44,12 +44,17 @@ pub fn closed_on_cut()
         (record { codes = λ c. V.codes c && W.codes c; glyphs = W.glyphs })).glyphs }
 {}
 
-/// On a cut a kept glyph has the links of colours that it has in the font, and any other has none.
+/// On a cut a kept glyph has the links of colours that it has in the font, and any other has none; and the colours can
+/// be read exactly where those of the font can.
 pub fn colour_links_on_cut()
-    ensures { (kind : Kind) (file : List ℕ) → fault_of kind file ≡ None → (V : Wanted) →
+    ensures links { (kind : Kind) (file : List ℕ) → fault_of kind file ≡ None → (V : Wanted) →
         length (cut (format_of kind) file V) ≤ MAX_FILE → (g : ℕ)
         → colour_links kind (cut (format_of kind) file V) g
         ≡ if is_kept (font_of kind file) V g then colour_links kind file g else [] }
+    ensures unlinked { (kind : Kind) (file : List ℕ) → fault_of kind file ≡ None → (V : Wanted) →
+        length (cut (format_of kind) file V) ≤ MAX_FILE
+        → is_unlinked_colour (tables_of kind (cut (format_of kind) file V))
+        ≡ is_unlinked_colour (tables_of kind file) }
 {}
 
 /// So on a cut, with the links of its own GSUB and colours, a closure is within what it is on the font, of the codes in
@@ -70,10 +75,19 @@ pub fn closed_with_colours_on_cut()
         (record { codes = λ c. V.codes c && W.codes c; glyphs = W.glyphs })).glyphs) }
 {}
 
-/// A closed cut of a closed cut, of codes and of glyphs that the first closure has, is the closed cut of the font for the
-/// codes in both and for these glyphs.
+/// The closed cut of a cut that keeps all glyphs that are there of the closure of what is wanted, of the codes in both, is
+/// the closed cut of the font for that. So is the closed cut of a closed cut, for glyphs that the first closure has.
 pub fn closed_on_closed_cut()
-    ensures { (kind : Kind) (file : List ℕ) → fault_of kind file ≡ None → (V : Wanted) →
+    ensures enough { (kind : Kind) (file : List ℕ) → fault_of kind file ≡ None → (V : Wanted) →
+        length (cut (format_of kind) file V) ≤ MAX_FILE → (W : Wanted)
+        → ((g : ℕ) → (closed (all_links kind file) (map_of file)
+        (record { codes = λ c. V.codes c && W.codes c; glyphs = W.glyphs })).glyphs g ≡ true →
+        (font_of kind file).there g ≡ true → is_kept (font_of kind file) V g ≡ true)
+        → cut (format_of kind) (cut (format_of kind) file V)
+        (closed (all_links kind (cut (format_of kind) file V)) (map_of (cut (format_of kind) file V)) W)
+        ≡ cut (format_of kind) file (closed (all_links kind file) (map_of file)
+        (record { codes = λ c. V.codes c && W.codes c; glyphs = W.glyphs })) }
+    ensures twice { (kind : Kind) (file : List ℕ) → fault_of kind file ≡ None → (V : Wanted) →
         length (cut (format_of kind) file (closed (all_links kind file) (map_of file) V)) ≤ MAX_FILE → (W : Wanted)
         → ((g : ℕ) → W.glyphs g ≡ true → (closed (all_links kind file) (map_of file) V).glyphs g ≡ true)
         → cut (format_of kind) (cut (format_of kind) file (closed (all_links kind file) (map_of file) V))

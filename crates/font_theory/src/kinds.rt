@@ -76,10 +76,7 @@ impl Kind {
     pub fn keeps_colours(self) -> bool
         ensures { result ≡ keeps_colours self }
     {
-        match self {
-            Kind::Full | Kind::Lean => false,
-            Kind::Layout | Kind::Variable => true,
-        }
+        matches!(self, Kind::Layout | Kind::Variable)
     }
 }
 
@@ -153,7 +150,7 @@ pub fn colours_are_kept()
 {}
 
 /// The same of colours with what varies, which is in the frame.
-pub fn varying_colours_are_kept()
+pub fn varying_colours_are()
     ensures { (s : Settings) → AreSettings s → (file colr : List ℕ) → table_of file (slot_tag COLR) ≡ Some colr →
         AreColoursOf store_of (with_colours varying_colours s) file colr }
 {}
@@ -195,7 +192,7 @@ pub fn full_has_no_numbers()
 {}
 
 /// A file that is accepted for cuts of a kind is an accepted font, and a font with the tables that they see, of which a
-/// plain reader sees all but those of layout and of variations.
+/// plain reader sees all but those of layout, of colours and of variations.
 pub fn accepted_is_a_font()
     ensures { (kind : Kind) (file : List ℕ) → (fault_of kind file ≡ None → (font_fault file ≡ None)
         × IsFont (font_of kind file)) × (plain_font file ≡ without_layout (font_of kind file)) }
@@ -400,9 +397,9 @@ pub fn refusals_of_kind_are_true()
         misfit_of (format_of kind) X Y ≢ None → Under (format_of kind) X F → ¬ Under (format_of kind) Y F) }
 {}
 
-/// Each table has room for any parts, but for that of colours, which may be too many, and for that of variation sequences,
-/// of which two parts may have the same selector and code: no join of two files is refused because a table has no room,
-/// but for these. So no tree of joins of full or lean cuts meets such files.
+/// Each table has room for any parts, but for that of colours, which may be too many, and for that of variation
+/// sequences, of which two parts may have the same selector and code: no join of two files is refused because a table
+/// has no room, but for these. So no tree of joins of full or lean cuts meets such files.
 pub fn parts_always_fit()
     ensures tagged { (kind : Kind) (slot : ℕ) → slot ≢ COLR → slot ≢ SEQUENCE_SLOT → (c : Tables) (frame : List ℕ)
         (parts : ℕ → List ℕ) → (partition_of kind slot).fits c frame parts ≡ true }
@@ -437,8 +434,8 @@ pub fn lean_cut_is_no_longer()
         length (cut (format_of Lean) file (of_codes codes)) ≤ length (cut our_format file (of_codes codes)) }
 {}
 
-/// A font without tables of variations, in whose tables of layout and of colours nothing varies, has its layout cut as its
-/// variable cut.
+/// A font without tables of variations, in whose tables of layout and of colours nothing varies, has its layout cut as
+/// its variable cut.
 pub fn variable_cut_of_unvarying()
     ensures { (file : List ℕ) → HasNothingVarying file → fault_of Variable file ≡ None → (fault_of Layout file ≡ None)
         × ((wanted : Wanted) → cut (format_of Variable) file wanted ≡ cut (format_of Layout) file wanted) }

@@ -108,7 +108,7 @@ pub use crate::kinds::tables_are_kept;
 pub use crate::kinds::trees_of_cuts_of_kind;
 pub use crate::kinds::union_is;
 pub use crate::kinds::variable_cut_of_unvarying;
-pub use crate::kinds::varying_colours_are_kept;
+pub use crate::kinds::varying_colours_are;
 pub use crate::kinds::wanted_is_in_file_of_kind;
 pub use crate::kinds::written_is_closed;
 pub use crate::trees::clash_everywhere;
