@@ -4,23 +4,27 @@ use Rattle.std.proofs.Common.{get_or, inl, inr}
 use Rattle.std.proofs.Common.{Option, None, Some, IsTrue, IsFalse, IfSome, is_some, refl, sym, ap, subst, ◌∙◌, arith}
 use Rattle.std.specs.Option.{option_map_or}
 use Rattle.std.specs.Str.{bytes_eq}
+use Rattle.std.proofs.lemmas.List.{append-nil}
 use Rattle.std.proofs.lemmas.Bool.{cases_Bool, cond-false, cond-true, false_from_ne_true, lt-ltb}
 use Rattle.std.proofs.lemmas.Slice.Eq.{bytes_eq-Decides}
 use Rattle.colour_tables.specs.Laws.{IsStored}
 use Rattle.colour_tables.specs.LayerLists.{is_layer_table, layers_at}
 use Rattle.colour_tables.specs.MadeLayers.{layer_table}
 use Rattle.colour_tables.specs.MadePaints.{paint_table}
+use Rattle.colour_tables.specs.NamedGlyphs.{colour_names, layer_names}
 use Rattle.colour_tables.specs.PaintLists.{Colour, colour_at, has_colour, is_paint_table, no_colour}
 use Rattle.colour_tables.specs.Stores.{no_store}
 use Rattle.colour_tables.specs.declared.layer.Layer.{Layer}
+use Rattle.font_theory.specs.ColourTables.{said_colour}
 use Rattle.font_theory.specs.LayerTables.{layer_way}
 use Rattle.font_theory.specs.PaintTables.{varying_way}
 use Rattle.font_theory.proofs.ColourTableLemmas.{one_version}
+use Rattle.font_theory.proofs.ColourWordLemmas.{said-layers, said-nothing, said-paints}
 use Rattle.font_theory.proofs.LayerTableLemmas.{layer_way_is}
 use Rattle.font_theory.proofs.PaintTableLemmas.{IsSaid, varying_way_is}
 use Rattle.font_theory.proofs.WayLemmas.{part-says}
 use Rattle.divided_colours.specs.OpenColours.{AreForms, IsLayers, IsOther, IsPaints, OpenColours}
-use Rattle.divided_colours.specs.OpenColours.{colour_part, part_by, part_of}
+use Rattle.divided_colours.specs.OpenColours.{colour_part, part_of, said_in}
 
 -- what is said of a glyph, as bytes
 abbrev pub layer_bytes : ℕ → ℕ → Option (List Layer) → List ℕ
@@ -306,3 +310,30 @@ pub second_bare : (o p : OpenColours) → IsBare p → (g : ℕ)
     → not (nat_lt 0 (length (part_of o g)) || nat_lt 0 (length (part_of p g)))
     ≡ bytes_eq (part_of o g) (part_of p g)
 second_bare o p a g = neither (part_of o g) (part_of p g) (λ e. e ∙ a g)
+
+-- the glyphs that are named
+held_names : (o : OpenColours) (t : List ℕ) (g : ℕ) → o.table ≡ Some t → said_in o g ≡ said_colour o.count t g
+held_names o t g e = ap (λ (x : Option (List ℕ)). option_map_or (λ t. said_colour o.count t g) x no_colour) e
+
+pub layers_name : (o : OpenColours) (l : List ℕ × ℕ) → IsLayers o l → (g : ℕ)
+    → layer_names (layers_at l.0 g) ≡ colour_names (said_in o g)
+layers_name o l a g =
+    sym (ap colour_names (held_names o l.0 g a.table_is ∙ said-layers o.count l.0 g a.read)
+    ∙ append-nil (layer_names (layers_at l.0 g)))
+
+pub paints_name : (o : OpenColours) (p : List ℕ × ℕ) → IsPaints o p → (g : ℕ)
+    → colour_names (colour_at p.1 p.0 g) ≡ colour_names (said_in o g)
+paints_name o p a g =
+    ap (λ m. colour_names (colour_at m p.0 g)) a.count_is
+    ∙ sym (ap colour_names (held_names o p.0 g a.table_is ∙ said-paints o.count p.0 g a.other a.read))
+
+pub bare_names : (o : OpenColours) → IsOther o
+    → ((t : List ℕ) → o.table ≡ Some t → is_paint_table o.count t ≡ false) → (g : ℕ) → [] ≡ colour_names (said_in o g)
+bare_names o other none g = go o.table refl
+  where
+    go : (x : Option (List ℕ)) → o.table ≡ x → [] ≡ colour_names (said_in o g)
+    go None e =
+        sym (ap (λ (x : Option (List ℕ)). colour_names (option_map_or (λ t. said_colour o.count t g) x no_colour)) e)
+    go (Some t) e =
+        sym (ap colour_names (held_names o t g e ∙ said-nothing o.count t g
+        (subst (λ (x : Option (List ℕ)). IfSome x (λ v. is_layer_table o.count v ≡ false)) e other) (none t e)))

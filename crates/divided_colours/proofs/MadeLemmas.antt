@@ -1,6 +1,6 @@
 -- Colour tables that are made of two.
-use Rattle.std.proofs.Common.{◌≡◌, ℕ, ◌<◌, ◌≤◌, Bool, true, false, cond, not, ◌&&◌, List, [], length, Option, None, Some}
-use Rattle.std.proofs.Common.{IfSome, unwrap_or, refl, sym, ap, subst, ◌∙◌, arith}
+use Rattle.std.proofs.Common.{◌≡◌, ℕ, Bool, true, false, cond, not, ◌&&◌, List, [], length, Option, None, Some}
+use Rattle.std.proofs.Common.{IfSome, unwrap_or, refl, sym, ap, subst, ◌∙◌}
 use Rattle.std.specs.Option.{option_and_then, option_map_or}
 use Rattle.std.proofs.Math.Path.{fun_ext}
 use Rattle.std.proofs.lemmas.Bool.{cond-false, cond-true}
@@ -9,11 +9,10 @@ use Rattle.colour_tables.specs.MadeLayers.{layer_table}
 use Rattle.colour_tables.specs.MadePaints.{paint_table}
 use Rattle.colour_tables.specs.PaintLists.{Colour, colour_at, colours_have_room, is_paint_table, no_colour}
 use Rattle.colour_tables.specs.Stores.{Store}
-use Rattle.colour_tables.specs.declared.layer.Layer.{Layer}
 use Rattle.colour_writers.specs.Picked.{by_side, picked_colour, picked_layers}
 use Rattle.colour_writers.specs.declared.sides.Side.{Side}
 use Rattle.colour_writers.specs.declared.sides.Side.TheVariants.{First, Neither, Second}
-use Rattle.font_theory.specs.ColourTables.{colr_with, said_colour}
+use Rattle.font_theory.specs.ColourTables.{said_colour}
 use Rattle.font_theory.proofs.ColourWordLemmas.{made-layers, made-paints, said-layers, said-paints}
 use Rattle.divided_colours.specs.OpenColours.{AreApart, IsLayers, IsOther, IsPaints, OpenColours, are_alike}
 use Rattle.divided_colours.specs.OpenColours.{colours_have, front_by, has_room, made_colours, made_of, picked}
@@ -86,8 +85,8 @@ module _ (o p : OpenColours) (l m : List ℕ × ℕ) (count : o.count ≡ p.coun
   moved test b e = ap (λ n. test n m.0) count ∙ e
 
   module _ (a : IsLayers o l) (c : IsLayers p m) where
-    pub layers_have : layers_have_room l.1 (picked_layers side l.0 m.0) ≡ colours_have side o p
-    layers_have =
+    pub layers_fit : layers_have_room l.1 (picked_layers side l.0 m.0) ≡ colours_have side o p
+    layers_fit =
         ap (λ n. layers_have_room n (picked_layers side l.0 m.0)) a.count_is
         ∙ sym (room_open side o p l.0 m.0 a.table_is c.table_is
         ∙ cond-true (are_alike o.count l.0 m.0) _ _
@@ -102,8 +101,8 @@ module _ (o p : OpenColours) (l m : List ℕ × ℕ) (count : o.count ≡ p.coun
         ∙ layers_made o.count l.0 m.0 a.read (moved is_layer_table true c.read) side varies)
 
   module _ (a : IsPaints o l) (c : IsPaints p m) where
-    pub paints_have : colours_have_room l.1 (picked_colour side l.1 l.0 m.0) ≡ colours_have side o p
-    paints_have =
+    pub paints_fit : colours_have_room l.1 (picked_colour side l.1 l.0 m.0) ≡ colours_have side o p
+    paints_fit =
         ap (λ n. colours_have_room n (picked_colour side n l.0 m.0)) a.count_is
         ∙ sym (room_open side o p l.0 m.0 a.table_is c.table_is
         ∙ cond-true (are_alike o.count l.0 m.0) _ _

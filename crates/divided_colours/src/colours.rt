@@ -1,5 +1,5 @@
 //! A colour table that is open, of either version. OpenType 1.9, COLR.
-ghost use Rattle.std.specs.Prelude.{◌≡◌, ◌+◌, ◌*◌, ◌<◌, ◌≤◌, ℕ, [], false, true, length, nat_lt, not, option_copied, unwrap_or, ◌||◌, IfOk, IsTrue, OnErr};
+ghost use Rattle.std.specs.Prelude.{◌≡◌, ◌+◌, ◌++◌, ◌*◌, ◌<◌, ◌≤◌, ℕ, [], false, true, length, nat_lt, not, option_copied, unwrap_or, ◌||◌, IfOk, IsTrue, OnErr, OnOk};
 ghost use Rattle.std.specs.Option.{option_map};
 ghost use Rattle.sfnt_bytes.specs.Memory.{IsRefused};
 ghost use Rattle.sfnt_bytes.specs.declared.directory.TheConstants.{MAX_FILE};
@@ -191,15 +191,33 @@ impl<'t> Colours<'t> {
         ensures memory { OnErr result (IsRefused A.refuses) }
     {
         let mut names = Vec::new(alloc);
-        match &self.layers {
-            Some(layers) => layers.add_names(g, &mut names)?,
-            None => {
-                if let Some(paints) = &self.paints {
-                    paints.add_names(g, &mut names)?;
-                }
-            }
-        }
+        self.add_names(g, &mut names)?;
         Ok(names)
+    }
+
+    // Puts the glyphs that the colours of a glyph name after others.
+    fn add_names<A: Memory>(&self, g: u16, names: &mut Vec<u16, A>) -> Result<(), NoMemory>
+        ensures names { OnOk result
+            (names.new.items ≡ names.old.items ++ colour_names (said_in self.now g)) }
+        ensures memory { OnErr result (IsRefused A.refuses) }
+    {
+        match &self.layers {
+            Some(layers) => layers.add_names(g, names),
+            None => self.add_paint_names(g, names),
+        }
+    }
+
+    // Puts so those of a table that is not one of version 0.
+    fn add_paint_names<A: Memory>(&self, g: u16, names: &mut Vec<u16, A>) -> Result<(), NoMemory>
+        requires { IsOther self.now }
+        ensures names { OnOk result
+            (names.new.items ≡ names.old.items ++ colour_names (said_in self.now g)) }
+        ensures memory { OnErr result (IsRefused A.refuses) }
+    {
+        match &self.paints {
+            Some(paints) => paints.add_names(g, names),
+            None => Ok(()),
+        }
     }
 
     // Returns how this table and another are open.
