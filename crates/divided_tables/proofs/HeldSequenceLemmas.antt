@@ -1,5 +1,5 @@
 -- The table of variation sequences that is open, where it is read, in the words of divided tables.
-use Rattle.std.proofs.Common.{◌≡◌, ℕ, ◌≤◌, ◌<◌, Bool, true, false, not, nat_eq, nat_lt, cond, List, [], ◌∷◌}
+use Rattle.std.proofs.Common.{◌≡◌, ℕ, ◌≤◌, ◌<◌, not, nat_lt, cond, List, [], ◌∷◌}
 use Rattle.std.proofs.Common.{length, Option}
 use Rattle.std.proofs.Common.{None, Some, unwrap_or, refl, sym, ◌∙◌, ap, subst, arith}
 use Rattle.std.specs.Option.{option_map, option_map_or, option_or}
@@ -7,13 +7,12 @@ use Rattle.std.proofs.lemmas.Bool.{lt-ltb}
 use Rattle.std.specs.Str.{bytes_eq}
 use Rattle.variation_sequences.specs.Pairs.{part_of}
 use Rattle.variation_sequences.specs.declared.variant.Pair.{Pair}
-use Rattle.font_theory.specs.Content.{Content, glyph_count, table_in_slot}
+use Rattle.font_theory.specs.Content.{Content, glyph_count}
 use Rattle.font_theory.specs.Kinds.{reduced}
 use Rattle.font_theory.specs.Parted.{sequences}
 use Rattle.font_theory.specs.Parting.{Tables, context, frames, parts_of}
 use Rattle.font_theory.specs.SequenceTable.{sequence_table, sequences_in}
 use Rattle.font_theory.specs.declared.kinds.TheConstants.{SEQUENCES}
-use Rattle.font_theory.proofs.ContentLemmas.{nothing_either}
 use Rattle.font_write.specs.declared.source.TheConstants.{MAX_TABLE}
 use Rattle.divided_tables.specs.HeldSequences.{AreHeldBy, OpenTable, held_parts}
 use Rattle.divided_tables.specs.PartedTable.{ArePartsIn, alone}

@@ -1,5 +1,5 @@
 -- Colour tables that are open (OpenType 1.9, COLR).
-use Rattle.std.specs.Prelude.{◌≡◌, ℕ, Bool, List, if◌then◌else◌, Option}
+use Rattle.std.specs.Prelude.{◌≡◌, Bool, if◌then◌else◌}
 use Rattle.sfnt_bytes.specs.declared.tag.TheConstants.{COLR}
 use Rattle.divided_colours.specs.OpenColours.{OpenColours, part_of}
 use Rattle.font_theory.specs.ColourTables.{colours, varying_colours}

@@ -1,10 +1,9 @@
 -- Variation sequences that are open, this project's own (OpenType 1.9, cmap, Format 14: Unicode variation sequences).
-use Rattle.std.specs.Prelude.{◌≡◌, ℕ, List, true, is_some, if◌then◌else◌, Option, Some}
-use Rattle.std.specs.Option.{option_map}
+use Rattle.std.specs.Prelude.{◌≡◌, ℕ, List}
 use Rattle.variation_sequences.specs.Pairs.{part_of}
 use Rattle.variation_sequences.specs.declared.variant.Pair.{Pair}
-use Rattle.font_theory.specs.Content.{Content, glyph_count, table_in_slot}
-use Rattle.font_theory.specs.Parting.{Parting, Tables, context}
+use Rattle.font_theory.specs.Content.{glyph_count, table_in_slot}
+use Rattle.font_theory.specs.Parting.{Tables}
 use Rattle.divided_tables.specs.PartedTable.{GlyphParts}
 use Rattle.font_theory.specs.SequenceTable.{sequence_table, sequences_in}
 

@@ -1,4 +1,4 @@
-use Rattle.std.proofs.Common.{◌≡◌, ℕ, List, Option, cond, is_some, ap, ◌∙◌}
+use Rattle.std.proofs.Common.{ℕ, List, Option, cond, is_some, ap, ◌∙◌}
 use Rattle.std.specs.Option.{option_or}
 use Rattle.std.proofs.lemmas.Result.{IfOk-weaker}
 use Rattle.sfnt_bytes.specs.declared.tag.TheConstants.{COLR}

@@ -1,4 +1,4 @@
-use Rattle.std.proofs.Common.{◌≡◌, ℕ, List, Option, None, sym, subst, ◌∙◌}
+use Rattle.std.proofs.Common.{ℕ, List, Option, None, sym, subst, ◌∙◌}
 use Rattle.std.proofs.lemmas.Result.{IfOk-weaker}
 use Rattle.sfnt_bytes.specs.declared.tag.TheConstants.{COLR}
 use Rattle.divided_tables.specs.OpenColours.{colour_parting}

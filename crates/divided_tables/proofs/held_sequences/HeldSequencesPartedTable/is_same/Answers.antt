@@ -1,4 +1,4 @@
-use Rattle.std.proofs.Common.{List, length, nat_lt, not, sym, ap, ℕ, ◌∙◌, unwrap_or, []}
+use Rattle.std.proofs.Common.{not, sym, ap, ◌∙◌, unwrap_or, []}
 use Rattle.std.specs.Option.{option_map}
 use Rattle.std.specs.Str.{bytes_eq}
 use Rattle.variation_sequences.specs.Pairs.{part_of}

@@ -1,4 +1,4 @@
-use Rattle.std.proofs.Common.{List, ap, is_some, length, subst, sym, ◌<◌, ◌≡◌, ◌^◌, ◌∙◌}
+use Rattle.std.proofs.Common.{List, ap, is_some, length, subst, sym, ◌<◌, ◌^◌, ◌∙◌}
 use Rattle.std.specs.List.Sorted.{IsNonDecreasingBy}
 use Rattle.variation_sequences.specs.declared.variant.Pair.{Pair}
 use Rattle.font_theory.specs.Content.{Content}
