@@ -1,5 +1,5 @@
 -- What a font gives to its cuts of each kind.
-use Rattle.std.proofs.Common.{◌≡◌, ◌≢◌, ℕ, suc, ◌<◌, ◌≤◌, false, true, refl, List, length, None, Some, sym, ◌∙◌, ap}
+use Rattle.std.proofs.Common.{◌≡◌, ◌≢◌, ℕ, suc, ◌≤◌, false, true, refl, List, None, Some, sym, ◌∙◌, ap}
 use Rattle.std.proofs.Common.{subst}
 use Rattle.std.specs.Option.{IsSome, is_some, option_or}
 use Rattle.font_theory.specs.Content.{Content, IsClosedContent, IsWritable, KeepsComponents, Wanted, content}
@@ -19,7 +19,7 @@ use Rattle.font_theory.proofs.SettingsLemmas.{IsClosed-by}
 use Rattle.font_theory.proofs.WordLemmas.{reduced-undivided}
 use Rattle.font_theory.proofs.WritableLemmas.{IsWritable-closed}
 use Rattle.font_write.specs.Parts.{IsNextKept}
-use Rattle.divided_tables.specs.DividedTables.{IsKept, Made, made_at, none_made}
+use Rattle.divided_tables.specs.DividedTables.{IsKept, Made, keeps_varying, made_at, none_made}
 use Rattle.divided_tables.proofs.KindPartLemmas.{reduced_as}
 use Rattle.divided_tables.proofs.MadeLemmas.{none_at}
 use Rattle.font_subset.specs.KeptGlyphs.{selected, wanted_in, written_content}
@@ -132,7 +132,7 @@ module _ (cut : Held) (ok : fault_of cut.0 cut.1.0 ≡ None) where
       ∙ sym (ap (λ (K : Content). K.copied slot) (written_is cut ok) ∙ kept_full cut.0 (selected cut) slot full)
 
   -- others have those of which the parts of kept glyphs are left
-  pub made_kept : (made : Made) → cut.0 ≢ Full → IsKept (selected cut) made → IsMade cut made
+  pub made_kept : (made : Made) → cut.0 ≢ Full → IsKept (keeps_varying cut.0) (selected cut) made → IsMade cut made
   made_kept made other kept slot =
       kept slot ∙ sym (ap (λ (K : Content). K.copied slot) (written_is cut ok)
       ∙ reduced_as cut.0 (divides_all cut.0 other) (selected cut) (unread_file cut.0 cut.1.0) slot)

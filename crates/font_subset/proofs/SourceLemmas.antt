@@ -4,9 +4,9 @@ use Rattle.std.proofs.Common.{nat_lt, length, slice_range, drop, Option, None, S
 use Rattle.std.proofs.Common.{MatchOption, cond, inl, inr, nat_le}
 use Rattle.std.specs.Option.{option_map, unwrap_or, is_some, IsSome}
 use Rattle.std.proofs.lemmas.List.{length-drop, length-take}
-use Rattle.std.proofs.lemmas.Bool.{cases_eq, false_from_ne_true, le-leb, le-ltb, or_right}
+use Rattle.std.proofs.lemmas.Bool.{both_ways, cases_eq, false_from_ne_true, le-leb, le-ltb, ne_eqb, or_right}
 use Rattle.sfnt_bytes.specs.Directory.{is_layout_slot, kept_tag, slot_tag, table_bytes, table_entry, table_of}
-use Rattle.sfnt_bytes.specs.declared.tag.TheConstants.{ALL_SLOTS, FIRST_VARIATION, SLOTS}
+use Rattle.sfnt_bytes.specs.declared.tag.TheConstants.{ALL_SLOTS, COLR, CPAL, FIRST_VARIATION, SLOTS}
 use Rattle.sfnt_bytes.specs.Lines.{when}
 use Rattle.sfnt_bytes.specs.declared.directory.TheConstants.{MAX_FILE}
 use Rattle.sfnt_bytes.specs.declared.records.Entry.{Entry}
@@ -20,9 +20,11 @@ use Rattle.font_glyph.specs.Marks.{NoMark, has}
 use Rattle.font_write.specs.Parts.{IsNextKept}
 use Rattle.font_write.proofs.MeasureLemmas.{none_if}
 use Rattle.font_theory.specs.Content.{Content, IsFont, IsWritable, KeepsComponents, Wanted, content, glyph_count}
+use Rattle.font_theory.specs.ColourTables.{colours, varying_colours}
+use Rattle.font_theory.specs.Content.{is_colour_slot}
 use Rattle.font_theory.specs.Content.{is_kept, is_made, is_never_copied, is_never_in_layout, plain_font, table_in_slot}
 use Rattle.font_theory.specs.Kinds.{Reading, fault_of, font_of, layout_settings, read_by, settings, tables_of}
-use Rattle.font_theory.specs.Kinds.{table_in_file, variable_settings}
+use Rattle.font_theory.specs.Kinds.{table_in_file, variable_settings, with_sequences}
 use Rattle.font_theory.specs.Kinds.Reading.{absent, as_it_is, unvarying}
 use Rattle.font_theory.specs.Parting.{may_divide}
 use Rattle.font_theory.specs.declared.kinds.TheConstants.{SEQUENCES}
@@ -30,6 +32,7 @@ use Rattle.font_theory.specs.declared.kinds.Kind.TheVariants.{Full, Layout, Lean
 use Rattle.font_theory.specs.declared.kinds.Kind.{Kind}
 use Rattle.font_theory.proofs.KindLemmas.{AreSettings-layout, AreSettings-variable, full_fault-is, full_font-is}
 use Rattle.font_theory.proofs.KindLemmas.{lean_fault-is, lean_tables-is, settings-are}
+use Rattle.font_theory.proofs.ColourSettingsLemmas.{read_there as read_coloured}
 use Rattle.font_theory.proofs.SequenceSettingsLemmas.{read_there}
 use Rattle.font_theory.proofs.SettingsLemmas.{IsFont-by, count_by, font_fault-by, table_in_file-tag, tables_by-below}
 use Rattle.font_theory.proofs.ContentLemmas.{IsClosed-content}
@@ -113,7 +116,7 @@ short_table kind file ok slot t = elim (cases_eq slot SEQUENCES) [
       elim (read_divided kind slot t) [
         | inl unread ↦ subst P (sym unread) (omega arith)
         | inr read ↦ subst P (sym read) (subst (λ (o : Option (List ℕ)). length (unwrap_or o []) ≤ MAX_FILE)
-            (sym (table_in_file-tag file slot other)) (table_small file (slot_tag slot) (opened kind file ok)))
+            (sym (table_in_file-tag file slot other (λ e. both_ways _ (ap may_divide e) t))) (table_small file (slot_tag slot) (opened kind file ok)))
       ]
 ]
 
@@ -149,22 +152,32 @@ plain_further : (file : List ℕ) (slot : ℕ) → SLOTS ≤ slot → (plain_fon
 plain_further file slot past =
     let made : is_made slot ≡ true = or_right _ (nat_le SLOTS slot) (le-leb SLOTS slot past) in rw made refl
 
+past_colours : (slot : ℕ) → FIRST_VARIATION ≤ slot → is_colour_slot slot ≡ false
+past_colours slot far =
+    let x = ne_eqb slot COLR (λ e. omega (arith, e, far)) in
+    let y = ne_eqb slot CPAL (λ e. omega (arith, e, far)) in
+    rw (x, y) refl
+
 layout_further : (file : List ℕ) (slot : ℕ) → FIRST_VARIATION ≤ slot → slot ≢ SEQUENCES
     → tables_of Layout file slot ≡ None
 unfolding layout_settings
 layout_further file slot far other =
     let never : is_never_in_layout slot ≡ true = or_right _ (nat_le FIRST_VARIATION slot) (le-leb FIRST_VARIATION slot
     far) in
-    ap (λ r. read_by r slot (table_in_file file slot)) (read_there layout_settings AreSettings-layout slot other
-    ∙ ap (λ b. cond b absent (cond (is_layout_slot slot) unvarying as_it_is)) never)
+    ap (λ r. read_by r slot (table_in_file file slot))
+    (read_coloured colours (with_sequences layout_settings) slot (past_colours slot far)
+    ∙ read_there layout_settings AreSettings-layout slot other
+    ∙ ap (λ b. cond b absent (cond (is_layout_slot slot) unvarying as_it_is)) (or_right (is_colour_slot slot) _ never))
 
 variable_further : (file : List ℕ) (slot : ℕ) → ALL_SLOTS ≤ slot → slot ≢ SEQUENCES
     → tables_of Variable file slot ≡ None
 unfolding variable_settings
 variable_further file slot far other =
     let never : is_never_copied slot ≡ true = or_right _ (nat_le ALL_SLOTS slot) (le-leb ALL_SLOTS slot far) in
-    ap (λ r. read_by r slot (table_in_file file slot)) (read_there variable_settings AreSettings-variable slot other
-    ∙ ap (λ b. cond b absent as_it_is) never)
+    ap (λ r. read_by r slot (table_in_file file slot))
+    (read_coloured varying_colours (with_sequences variable_settings) slot (past_colours slot (omega (arith, far)))
+    ∙ read_there variable_settings AreSettings-variable slot other
+    ∙ ap (λ b. cond b absent as_it_is) (or_right (is_colour_slot slot) _ never))
 
 pub unread : (kind : Kind) (file : List ℕ) (slot : ℕ) → SLOTS ≤ slot → slots_of kind ≤ slot → slot ≢ SEQUENCES
     → tables_of kind file slot ≡ None

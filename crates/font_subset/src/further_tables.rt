@@ -1,6 +1,6 @@
-//! The tables of layout and of variations of a font, as cuts of a kind read them: not at all, without what varies, or as
-//! they are; and its variation sequences. OpenType 1.9, BASE; GDEF; GPOS; GSUB; kern; OpenType Font Variations Overview;
-//! cmap, Format 14: Unicode variation sequences.
+//! The tables of layout, of colours and of variations of a font, as cuts of a kind read them: not at all, without what
+//! varies, or as they are; and its variation sequences. OpenType 1.9, BASE; COLR; CPAL; GDEF; GPOS; GSUB; kern; OpenType
+//! Font Variations Overview; cmap, Format 14: Unicode variation sequences.
 ghost use Rattle.std.specs.Prelude.{◌≡◌, ◌≤◌, ◌<◌, false, true, Err, None, IfOk, MatchOption, MatchResult, OnErr, length, option_copied};
 ghost use Rattle.std.specs.Option.{option_map};
 ghost use Rattle.sfnt_bytes.specs.Directory.{is_layout_slot, slot_tag, table_of as table_of_tag};
@@ -8,6 +8,7 @@ ghost use Rattle.sfnt_bytes.specs.Memory.{IsRefused};
 ghost use Rattle.sfnt_bytes.specs.declared.directory.TheConstants.{MAX_FILE};
 ghost use Rattle.sfnt_bytes.specs.declared.tag.TheConstants.{FIRST_VARIATION, SLOTS as KEPT_SLOTS};
 ghost use Rattle.font_file.specs.Font.{font_fault};
+ghost use Rattle.font_theory.specs.Content.{is_colour_slot};
 ghost use Rattle.font_theory.specs.Kinds.{sequences_of_file, tables_of};
 ghost use Rattle.font_theory.specs.Links.{fixed};
 ghost use Rattle.font_theory.specs.declared.kinds.TheConstants.{SEQUENCES as SEQUENCE_SLOT};
@@ -24,8 +25,8 @@ use font_layout::fixed_table;
 use font_map::Chart;
 use font_theory::{Kind, SEQUENCES};
 use sfnt_bytes::{
-    ALL_SLOTS, BASE, CMAP, DirError, FIRST_VARIATION, GDEF, GPOS, GSUB, KERN, Memory, NoMemory,
-    SLOTS,
+    ALL_SLOTS, BASE, CMAP, COLR, CPAL, DirError, FIRST_VARIATION, GDEF, GPOS, GSUB, KERN, Memory,
+    NoMemory, SLOTS,
 };
 use std::alloc::{Allocator, Global};
 use std::marker::Model;
@@ -41,7 +42,7 @@ fn slots_of(kind: Kind) -> usize
     }
 }
 
-// Tells whether the tables of layout and of variations that cuts of a kind read stand once at most and lie within the
+// Tells whether the tables of layout, of colours and of variations that cuts of a kind read stand once at most and lie within the
 // file.
 #[tactic(auto, unfolding(font_theory::specs::Kinds::full_settings, font_theory::specs::Kinds::lean_settings, font_theory::specs::Kinds::layout_settings, font_theory::specs::Kinds::variable_settings, sfnt_bytes::specs::Refusals::layout_directory_fault, sfnt_bytes::specs::Refusals::variable_directory_fault))]
 fn check_tags(kind: Kind, font: &Font<'_>) -> Result<(), DirError>
@@ -243,7 +244,7 @@ impl<'f, 'a, A: Allocator> FixedTables<'f, 'a, A> {
     }
 }
 
-/// The tables of layout and of variations of a font, as cuts of a kind read them.
+/// The tables of layout, of colours and of variations of a font, as cuts of a kind read them.
 pub(crate) struct FurtherTables<'f, 'a, A: Allocator = Global> {
     kind: Kind,
     font: &'f Font<'a>,
@@ -355,6 +356,23 @@ impl<'f, 'a, A: Allocator> FurtherTables<'f, 'a, A> {
         }
     }
 
+    // Returns a table of colours. Palettes are read beside `COLR` alone.
+    fn colours(&self, slot: usize) -> Option<&[u8]>
+        requires read { KEPT_SLOTS < slots_of self.now.0 }
+        requires slot { is_colour_slot slot ≡ true }
+        ensures table { MatchOption result (tables_of self.now.0 self.now.1 slot ≡ None)
+            (λ b. tables_of self.now.0 self.now.1 slot ≡ Some b.now) }
+        ensures small { MatchOption result Unit (λ b. length b.now ≤ MAX_FILE) }
+    {
+        let Some(colr) = table_of(self.kind, self.font, COLR) else {
+            return None;
+        };
+        if slot == COLR {
+            return Some(colr);
+        }
+        table_of(self.kind, self.font, CPAL)
+    }
+
     /// Returns the table of a slot, where cuts of the kind read it.
     pub(crate) fn table(&self, slot: usize) -> Option<&[u8]>
         requires { KEPT_SLOTS ≤ slot }
@@ -367,6 +385,9 @@ impl<'f, 'a, A: Allocator> FurtherTables<'f, 'a, A> {
         }
         if slots_of(self.kind) <= slot {
             return None;
+        }
+        if slot == COLR || slot == CPAL {
+            return self.colours(slot);
         }
         match &self.fixed {
             Some(fixed) => fixed.table(slot),

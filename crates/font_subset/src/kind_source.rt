@@ -4,6 +4,7 @@ ghost use Rattle.std.specs.Prelude.{◌≡◌, ◌≢◌, ◌≤◌, length, IfO
 ghost use Rattle.sfnt_bytes.specs.Memory.{IsRefused};
 ghost use Rattle.sfnt_bytes.specs.declared.directory.TheConstants.{MAX_FILE};
 ghost use Rattle.font_file.specs.Font.{font_fault};
+ghost use Rattle.divided_tables.specs.DividedTables.{keeps_varying};
 ghost use Rattle.font_theory.specs.declared.kinds.Kind.TheVariants.{Full};
 ghost use Rattle.font_subset.specs.KeptGlyphs.{all_asked, asked};
 ghost use Rattle.font_subset.specs.CutOfKind.{kind_form};
@@ -18,6 +19,16 @@ use font_write::Source;
 use sfnt_bytes::{Memory, NoMemory};
 use std::alloc::{Allocator, Global};
 use std::marker::Model;
+
+// Tells whether cuts of a kind keep what varies in colours.
+fn keeps_varying(kind: Kind) -> bool
+    ensures { result ≡ keeps_varying kind }
+{
+    match kind {
+        Kind::Full | Kind::Lean | Kind::Layout => false,
+        Kind::Variable => true,
+    }
+}
 
 /// What a cut of a kind is made of: what is selected of a font, and the tables that are made anew. A full cut has
 /// none of these.
@@ -77,10 +88,11 @@ impl<'f, 'a, A: Memory + Copy> CutOfKind<'f, 'a, A> {
         ensures memory { OnErr result (IsRefused A.refuses) }
     {
         selection.recall_accepted();
+        let varies = keeps_varying(selection.kind());
         let Some(divided) = selection.divided() else {
             unreachable!();
         };
-        let made = MadeTables::kept(alloc, &selection, divided)?;
+        let made = MadeTables::kept(alloc, &selection, divided, varies)?;
         Ok(CutOfKind { selection, made })
     }
 

@@ -5,7 +5,7 @@ use Rattle.sfnt_bytes.specs.declared.directory.TheConstants.{MAX_FILE}
 use Rattle.streams.specs.Outlet.{HasSent, WentOut, writer_of}
 use Rattle.font_theory.specs.Content.{Wanted}
 use Rattle.font_subset.specs.CutOfFont.{StopsCut}
-use Rattle.font_subset.specs.CutOfKind.{IsSoundCut, closed_if, cut_of}
+use Rattle.font_subset.specs.CutOfKind.{closed_if, cut_of}
 use Rattle.font_subset.specs.KeptGlyphs.{asked, wanted_in}
 use Rattle.font_subset.proofs.ClosingLemmas.{opened_file}
 use Rattle.font_subset.proofs.CutLemmas.{asks_none, is_sound_in, on_answer, stops_cut}

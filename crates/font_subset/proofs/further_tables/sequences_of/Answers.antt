@@ -1,11 +1,8 @@
-use Rattle.std.proofs.Common.{◌≡◌, ◌∙◌, ◌<◌, ℕ, List, [], IfOk, Option, ap, refl, subst, sym, unwrap_or}
+use Rattle.std.proofs.Common.{◌≡◌, ◌∙◌, ◌<◌, ℕ, List, IfOk, Option, ap, refl, subst, sym}
 use Rattle.sfnt_bytes.specs.Directory.{kept_tag, table_of}
 use Rattle.sfnt_bytes.specs.declared.tag.TheConstants.{CMAP}
 use Rattle.font_map.specs.Mapping.{mapping_of}
 use Rattle.font_tables.specs.Fields.{glyph_count_of}
-use Rattle.font_file.specs.Font.{cmap_of, map_of}
-use Rattle.font_theory.specs.Kinds.{sequences_of_file}
-use Rattle.font_theory.specs.SequenceTable.{sequences_of_font}
 use Rattle.divided_tables.proofs.MadeLemmas.{found_as}
 use Rattle.divided_tables.proofs.MetricTableLemmas.{or_empty}
 use Rattle.font_subset.proofs.FurtherTableLemmas.{mapped_below, of_font}

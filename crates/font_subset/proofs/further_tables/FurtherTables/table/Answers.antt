@@ -18,4 +18,5 @@ returns-in-None-clause-table g c =
     (subst (λ (v : Kind × List ℕ). option_copied c.table_of.result ≡ tables_of v.0 v.1 c.args.slot) c.self.view_is
     (c.table_of.ensures.table
     ∙ whole_table c.self.inside.kind c.self.inside.font.now c.args.slot (sym c.in-None.is ∙ c.self.invariant.fixed_is)
-    c.requires (subst (λ (n : ℕ). c.args.slot < n) c.slots_of.ensures c.if-slots_of-slot.false)))
+    c.requires (subst (λ (n : ℕ). c.args.slot < n) c.slots_of.ensures c.if-slots_of-slot.false)
+    c.if-slot-eq-COLR.false c.if-slot-eq-CPAL.false))

@@ -26,4 +26,6 @@ returns g c =
     let from : SLOTS ≤ c.args.slot = omega (arith, c.if-slot-lt-SLOTS.false) in
     subst (λ (v : Kind × List ℕ). option_copied c.table_of.result ≡ tables_of v.0 v.1 c.args.slot) c.self.view_is
     (c.table_of.ensures.table ∙ plain_table c.self.inside.kind c.self.inside.font.now c.args.slot from
-    (subst (λ (n : ℕ). c.args.slot < n) c.slots_of.ensures c.if-slots_of-slot.false) (or_parts _ _ c.requires).0)
+    (subst (λ (n : ℕ). c.args.slot < n) c.slots_of.ensures c.if-slots_of-slot.false)
+    (or_parts _ _ (or_parts _ _ c.requires).0).0
+    (λ e. let no : true ≡ false = ap is_read_apart (sym e) ∙ c.requires in cc))
