@@ -1,6 +1,6 @@
 -- What is wanted, closed under links.
 use Rattle.std.proofs.Common.{◌≡◌, ℕ, ◌<◌, ◌↔◌, Bool, true, false, ◌&&◌, ◌||◌, nat_lt, not, List, []}
-use Rattle.std.proofs.Common.{◌∷◌, get_or, length}
+use Rattle.std.proofs.Common.{◌∷◌, ◌++◌, cond, get_or, length}
 use Rattle.std.proofs.Common.{Option, None, Some, refl, sym, ◌∙◌, ap, subst, arith}
 use Rattle.std.proofs.Math.Path.{fun_ext}
 use Rattle.std.proofs.Math.Bool.{and_comm}
@@ -30,8 +30,8 @@ use Rattle.font_subset.specs.KeptGlyphs.{asked, glyphs_wanted, wanted_in, writte
 use Rattle.font_theory.specs.File.{file, current_writing}
 use Rattle.font_subset.proofs.CutLemmas.{cut_in_is}
 use Rattle.font_subset.proofs.SourceLemmas.{Held}
-use Rattle.font_subset.specs.CutOfKind.{closed_if, closed_of, cut_of, in_file, opened_font_cut}
-use Rattle.font_subset.specs.Inside.{AreClosedMarks, AreLinksOf, AreNumbered, AreStarts, IsSeedSet}
+use Rattle.font_subset.specs.CutOfKind.{closed_by, cut_of, follows, in_file, links_by, opened_font_cut}
+use Rattle.font_subset.specs.Inside.{AreClosedMarks, AreLinksOf, AreListed, AreNumbered, AreStarts, IsSeedSet}
 use Rattle.font_subset.specs.Inside.{is_beyond}
 use Rattle.font_subset.proofs.SourceLemmas.{count_as}
 
@@ -72,33 +72,35 @@ starts file W seeds marks n size is more = record {
 }
 
 -- what is marked by what links lead to from there is closed
-pub closed_marked : (kind : Kind) (file : List ℕ) (W : Wanted) (listed : List (List ℕ)) (from marks : List Bool)
-    (n : ℕ) → n ≡ glyph_count_of file → AreLinksOf (gsub_bytes kind file) listed → AreStarts file W from
-    → length marks ≡ n
-    → ((g : ℕ) → has marks g ≡ true ↔ (g < n) × Linked (λ h. get_or listed h []) (has from) numbers.NUMBERS g)
-    → AreClosedMarks kind file W marks
+pub closed_marked : (closes : Bool) (kind : Kind) (file : List ℕ) (W : Wanted)
+    (listed : List (List ℕ) × List (List ℕ)) (from marks : List Bool) (n : ℕ) → n ≡ glyph_count_of file
+    → AreListed (links_by closes kind file) listed → AreStarts file W from → length marks ≡ n
+    → ((g : ℕ) → has marks g ≡ true ↔ (g < n)
+    × Linked (λ h. get_or listed.0 h [] ++ get_or listed.1 h []) (has from) numbers.NUMBERS g)
+    → AreClosedMarks closes kind file W marks
 unfolding NUMBERS
-closed_marked kind file W listed from marks n size are is count found = record {
+closed_marked closes kind file W listed from marks n size are is count found = record {
   count = count ∙ size;
   glyphs = λ g low.
-      let decided = closed-decides (links (gsub_bytes kind file)) (map_of file) (in_file file W) g in
+      let own : ℕ → List ℕ = λ h. get_or listed.0 h [] ++ get_or listed.1 h [] in
+      let decided = closed-decides (links_by closes kind file) (map_of file) (in_file file W) g in
       let begin : has from ≡ is_start (map_of file) (in_file file W) = fun_ext is.starts in
-      let leads : (λ h. get_or listed h []) ≡ links (gsub_bytes kind file) = fun_ext are.each in
+      let leads : own ≡ links_by closes kind file = fun_ext are.each in
       let P : (ℕ → List ℕ) → (ℕ → Bool) → Type 0 = λ l s. Linked l s numbers.NUMBERS g in
-      let to : P (λ h. get_or listed h []) (has from) → P (links (gsub_bytes kind file))
-      (is_start (map_of file) (in_file file W)) = λ r. subst (λ (X : Type 0). X) (λ i. P (leads i) (begin i)) r in
-      let back : P (links (gsub_bytes kind file)) (is_start (map_of file) (in_file file W))
-      → P (λ h. get_or listed h []) (has from) = λ r.
-      subst (λ (X : Type 0). X) (sym (λ i. P (leads i) (begin i))) r in
+      let to : P own (has from) → P (links_by closes kind file) (is_start (map_of file) (in_file file W)) =
+      λ r. subst (λ (X : Type 0). X) (λ i. P (leads i) (begin i)) r in
+      let back : P (links_by closes kind file) (is_start (map_of file) (in_file file W)) → P own (has from) =
+      λ r. subst (λ (X : Type 0). X) (sym (λ i. P (leads i) (begin i))) r in
       both_ways (has marks g) _ (λ h. decided.1 (to ((found g).0 h).1))
       (λ h. (found g).1 (omega (arith, low, size), back (decided.0 h)));
 }
 
 -- what is left where the marks of the beginnings are taken away
-pub beyond_marked : (kind : Kind) (file : List ℕ) (W : Wanted) (from marks left : List Bool) → AreStarts file W from
-    → AreClosedMarks kind file W marks → ((g : ℕ) → has left g ≡ (has marks g && not (has from g))) → (g : ℕ)
-    → g < glyph_count_of file → has left g ≡ is_beyond kind file W g
-beyond_marked kind file W from marks left begin closed is g low =
+pub beyond_marked : (closes : Bool) (kind : Kind) (file : List ℕ) (W : Wanted) (from marks left : List Bool)
+    → AreStarts file W from → AreClosedMarks closes kind file W marks
+    → ((g : ℕ) → has left g ≡ (has marks g && not (has from g))) → (g : ℕ)
+    → g < glyph_count_of file → has left g ≡ is_beyond closes kind file W g
+beyond_marked closes kind file W from marks left begin closed is g low =
     is g ∙ (λ i. closed.glyphs g low i && not (begin.starts g i))
 
 -- a glyph is a seed, wanted, below the count, in the closure, and there, or not: what is listed beside the seeds has
@@ -114,48 +116,49 @@ same_root false false true true true low has = refl
 same_root false false true false true low has = refl
 
 -- a cut for the wanted glyphs and for those of the closure beyond where links begin is that for the closure
-module _ (kind : Kind) (file : List ℕ) (codes glyphs : ℕ → Bool) (W : Wanted) (same : codes ≡ W.codes)
-    (listed : (g : ℕ) → glyphs g ≡ (W.glyphs g || (nat_lt g (glyph_count_of file) && is_beyond kind file W g))) where
-  abbrev asked_for : Wanted
-  asked_for = record { codes = codes; glyphs = glyphs }
+module _ (closes : Bool) (kind : Kind) (file : List ℕ) (codes glyphs : ℕ → Bool) (W : Wanted) (same : codes ≡ W.codes)
+    (listed : (g : ℕ) → glyphs g ≡ (W.glyphs g || (nat_lt g (glyph_count_of file) && is_beyond closes kind file W g)))
+  where
+    abbrev asked_for : Wanted
+    asked_for = record { codes = codes; glyphs = glyphs }
 
-  abbrev F : Font
-  F = (format_of kind).font file
+    abbrev F : Font
+    F = (format_of kind).font file
 
-  low : (g : ℕ) → F.there g ≡ true → nat_lt g (glyph_count_of file) ≡ true
-  unfolding format_by
-  low g there =
-      lt-ltb g (glyph_count_of file) (subst (λ (n : ℕ). g < n) (sym (count_as kind file))
-      (there-low (settings kind) (tables_of kind file) (plain_font file).outline g there))
+    low : (g : ℕ) → F.there g ≡ true → nat_lt g (glyph_count_of file) ≡ true
+    unfolding format_by
+    low g there =
+        lt-ltb g (glyph_count_of file) (subst (λ (n : ℕ). g < n) (sym (count_as kind file))
+        (there-low (settings kind) (tables_of kind file) (plain_font file).outline g there))
 
-  begun : (g : ℕ) → is_start (map_of file) (in_file file W) g ≡ true → (closed_of kind file W).glyphs g ≡ true
-  begun g h = (closed-decides (links (gsub_bytes kind file)) (map_of file) (in_file file W) g).1 (start h)
+    begun : (g : ℕ) → is_start (map_of file) (in_file file W) g ≡ true → (closed_by closes kind file W).glyphs g ≡ true
+    begun g h = (closed-decides (links_by closes kind file) (map_of file) (in_file file W) g).1 (start h)
 
-  same_roots : (g : ℕ) → is_root F asked_for g ≡ is_root F (closed_of kind file W) g
-  unfolding format_by is_root is_start closed
-  same_roots g =
-      (λ i. is_seed (restricted (same i) (map_of file)) g || (listed g i && F.there g))
-      ∙ same_root (is_seed (restricted W.codes (map_of file)) g) (W.glyphs g) (nat_lt g (glyph_count_of file))
-      ((closed_of kind file W).glyphs g) (F.there g) (low g) (begun g)
+    same_roots : (g : ℕ) → is_root F asked_for g ≡ is_root F (closed_by closes kind file W) g
+    unfolding format_by is_root is_start closed
+    same_roots g =
+        (λ i. is_seed (restricted (same i) (map_of file)) g || (listed g i && F.there g))
+        ∙ same_root (is_seed (restricted W.codes (map_of file)) g) (W.glyphs g) (nat_lt g (glyph_count_of file))
+        ((closed_by closes kind file W).glyphs g) (F.there g) (low g) (begun g)
 
-  pub closed_same : cut_of kind file asked_for ≡ cut_of kind file (closed_of kind file W)
-  unfolding format_by closed is_kept
-  closed_same =
-      ap (format_of kind).file (content-kept F asked_for (closed_of kind file W)
-      (ap (λ (w : ℕ → Bool). restricted w (map_of file)) same)
-      (fun_ext (λ g. ap (λ (r : ℕ → Bool). reached F.outline r (glyph_count F.copied) g) (fun_ext same_roots))))
+    pub closed_same : cut_of kind file asked_for ≡ cut_of kind file (closed_by closes kind file W)
+    unfolding format_by closed is_kept
+    closed_same =
+        ap (format_of kind).file (content-kept F asked_for (closed_by closes kind file W)
+        (ap (λ (w : ℕ → Bool). restricted w (map_of file)) same)
+        (fun_ext (λ g. ap (λ (r : ℕ → Bool). reached F.outline r (glyph_count F.copied) g) (fun_ext same_roots))))
 
 -- all glyphs have their closure
-all_same : (kind : Kind) (file : List ℕ) (ranges : Option (List CodeRange)) → fault_of kind file ≡ None
-    → cut_of kind file (wanted_in (asked ranges None)) ≡ cut_of kind file (closed_of kind file (wanted_in (asked
-    ranges None)))
+all_same : (closes : Bool) (kind : Kind) (file : List ℕ) (ranges : Option (List CodeRange))
+    → fault_of kind file ≡ None → cut_of kind file (wanted_in (asked ranges None))
+    ≡ cut_of kind file (closed_by closes kind file (wanted_in (asked ranges None)))
 unfolding format_by closed
-all_same kind file ranges accepted =
+all_same closes kind file ranges accepted =
     let W = wanted_in (asked ranges None) in
-    ap (format_of kind).file (content-mapped ((format_of kind).font file) W (closed_of kind file W)
+    ap (format_of kind).file (content-mapped ((format_of kind).font file) W (closed_by closes kind file W)
     ((kind_is kind).law.is_font file ((kind_is kind).fault_is file ∙ accepted))
     (λ c mapped. refl)
-    (λ g there. sym (closed-has (links (gsub_bytes kind file)) (map_of file) (in_file file W) g
+    (λ g there. sym (closed-has (links_by closes kind file) (map_of file) (in_file file W) g
     (lt-ltb g (glyph_count_of file) (subst (λ (n : ℕ). g < n) (sym (count_as kind file))
     (there-low (settings kind) (tables_of kind file) (plain_font file).outline g there))))))
 
@@ -165,32 +168,37 @@ module _ (font : Kind × (List ℕ × Bool)) (ranges : Option (List CodeRange)) 
     abbrev with_numbers : Option (List ℕ) → Wanted
     with_numbers numbers = wanted_in (asked ranges numbers)
 
-    closed_or_not : (closes : Bool) (numbers : Option (List ℕ)) → font.1.1 ≡ closes
-        → cut_of font.0 font.1.0 (closed_if closes font.0 font.1.0 (with_numbers numbers))
+    abbrev goes_on : Bool
+    goes_on = follows font.1.1 font.0
+
+    linked_or_not : (linked : Bool) (numbers : Option (List ℕ)) → goes_on ≡ linked
+        → cut_of font.0 font.1.0 (cond linked (closed_by font.1.1 font.0 font.1.0 (with_numbers numbers))
+        (with_numbers numbers))
         ≡ opened_font_cut font (with_numbers numbers)
-    closed_or_not closes numbers is =
-        λ i. cut_of font.0 font.1.0 (closed_if (sym is i) font.0 font.1.0 (with_numbers numbers))
+    linked_or_not linked numbers is =
+        λ i. cut_of font.0 font.1.0 (cond (sym is i) (closed_by font.1.1 font.0 font.1.0 (with_numbers numbers))
+        (with_numbers numbers))
 
     pub all_numbers : cut_of font.0 font.1.0 (with_numbers None) ≡ opened_font_cut font (with_numbers None)
-    all_numbers = by_closing font.1.1 refl
+    all_numbers = by_links goes_on refl
       where
-        by_closing : (closes : Bool) → font.1.1 ≡ closes → cut_of font.0 font.1.0 (with_numbers None)
+        by_links : (linked : Bool) → goes_on ≡ linked → cut_of font.0 font.1.0 (with_numbers None)
             ≡ opened_font_cut font (with_numbers None)
-        by_closing true is = all_same font.0 font.1.0 ranges accepted ∙ closed_or_not true None is
-        by_closing false is = closed_or_not false None is
+        by_links true is = all_same font.1.1 font.0 font.1.0 ranges accepted ∙ linked_or_not true None is
+        by_links false is = linked_or_not false None is
 
-    pub closed_numbers : (numbers listed : List ℕ) → font.1.1 ≡ true
+    pub closed_numbers : (numbers listed : List ℕ) → goes_on ≡ true
         → ((g : ℕ) → glyphs_wanted (Some listed) g ≡ (glyphs_wanted (Some numbers) g
-        || (nat_lt g (glyph_count_of font.1.0) && is_beyond font.0 font.1.0 (with_numbers (Some numbers)) g)))
+        || (nat_lt g (glyph_count_of font.1.0) && is_beyond font.1.1 font.0 font.1.0 (with_numbers (Some numbers)) g)))
         → cut_of font.0 font.1.0 (with_numbers (Some listed)) ≡ opened_font_cut font (with_numbers (Some numbers))
-    closed_numbers numbers listed closes are =
-        closed_same font.0 font.1.0 _ (glyphs_wanted (Some listed)) (with_numbers (Some numbers)) refl are
-        ∙ closed_or_not true (Some numbers) closes
+    closed_numbers numbers listed linked are =
+        closed_same font.1.1 font.0 font.1.0 _ (glyphs_wanted (Some listed)) (with_numbers (Some numbers)) refl are
+        ∙ linked_or_not true (Some numbers) linked
 
-    pub same_numbers : (numbers listed : Option (List ℕ)) → font.1.1 ≡ false → listed ≡ numbers
+    pub same_numbers : (numbers listed : Option (List ℕ)) → goes_on ≡ false → listed ≡ numbers
         → cut_of font.0 font.1.0 (with_numbers listed) ≡ opened_font_cut font (with_numbers numbers)
-    same_numbers numbers listed unclosed is = ap (λ (l : Option (List ℕ)). cut_of font.0 font.1.0 (with_numbers l)) is
-        ∙ closed_or_not false numbers unclosed
+    same_numbers numbers listed unlinked is = ap (λ (l : Option (List ℕ)). cut_of font.0 font.1.0 (with_numbers l)) is
+        ∙ linked_or_not false numbers unlinked
 
 -- of a font that is held
 pub opened_path : (held : Kind × List ℕ) (font : Kind × (List ℕ × Bool)) (ranges : Option (List CodeRange))

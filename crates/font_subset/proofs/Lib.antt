@@ -3,6 +3,7 @@ pub mod ClosingLemmas
 pub mod ClosingRefusalLemmas
 pub mod ContentOfAllLemmas
 pub mod CutLemmas
+pub mod FollowedLemmas
 pub mod FontLemmas
 pub mod FormLemmas
 pub mod GlyphListLemmas

@@ -1,5 +1,5 @@
 -- What the calls say of each kind of cuts, this project's own.
-use Rattle.std.specs.Prelude.{◌≡◌, ℕ, ◌≤◌, Bool, true, false, if◌then◌else◌, nat_eq, nat_lt, ◌&&◌, List, []}
+use Rattle.std.specs.Prelude.{◌≡◌, ℕ, ◌≤◌, Bool, true, false, if◌then◌else◌, nat_eq, nat_lt, ◌&&◌, ◌||◌, List, []}
 use Rattle.std.specs.Prelude.{length}
 use Rattle.std.specs.Prelude.{None}
 use Rattle.sfnt_bytes.specs.Directory.{slot_tag, table_of}
@@ -13,9 +13,8 @@ use Rattle.font_file.specs.Font.{map_of}
 use Rattle.font_theory.specs.Bytes.{padded}
 use Rattle.font_theory.specs.Content.{Wanted, content, is_kept, is_never_copied, of_codes, wanted_within}
 use Rattle.font_theory.specs.Cut.{IsCurrent, Writes, cut}
-use Rattle.font_theory.specs.Kinds.{fault_of, font_of, format_of, gsub_bytes, partition_of, reduced, tables_of}
-use Rattle.font_theory.specs.Closed.{closed}
-use Rattle.font_theory.specs.Links.{links}
+use Rattle.font_theory.specs.Kinds.{fault_of, font_of, format_of, keeps_colours, partition_of, reduced, tables_of}
+use Rattle.font_theory.specs.Closed.{all_links, closed, colour_links}
 use Rattle.font_theory.specs.Parting.{frames, parts_of, undivided}
 use Rattle.font_theory.specs.declared.kinds.Kind.{Kind}
 use Rattle.font_theory.specs.declared.kinds.Kind.TheVariants.{Full, Layout, Lean, Variable}
@@ -43,9 +42,17 @@ own_of kind file = record { codes = is_mapped (map_of file); glyphs = (font_of k
 abbrev pub in_file : List ℕ → Wanted → Wanted
 in_file file W = record { codes = W.codes; glyphs = λ g. W.glyphs g && nat_lt g (glyph_count_of file) }
 
--- what is wanted of a file, closed under the links of its GSUB, without numbers that are no glyphs
+-- the links that cuts follow: those of GSUB and of colours where cuts are closed, and else those of colours alone
+abbrev pub links_by : Bool → Kind → List ℕ → ℕ → List ℕ
+links_by closes kind file = if closes then all_links kind file else colour_links kind file
+
+-- what is wanted of a file, closed under these links, without numbers that are no glyphs
+abbrev pub closed_by : Bool → Kind → List ℕ → Wanted → Wanted
+closed_by closes kind file W = closed (links_by closes kind file) (map_of file) (in_file file W)
+
+-- the same under all links
 abbrev pub closed_of : Kind → List ℕ → Wanted → Wanted
-closed_of kind file W = closed (links (gsub_bytes kind file)) (map_of file) (in_file file W)
+closed_of kind file W = closed_by true kind file W
 
 -- cuts of a kind keep the tables of layout, whose links lead from glyph to glyph
 abbrev pub keeps_links : Kind → Bool
@@ -54,9 +61,13 @@ keeps_links Lean = false
 keeps_links Layout = true
 keeps_links Variable = true
 
--- what a cut is of: what is wanted, closed under links or not
+-- cuts follow links: those that are closed, and those that keep colours, which name glyphs
+abbrev pub follows : Bool → Kind → Bool
+follows closes kind = closes || keeps_colours kind
+
+-- what a cut is of: what is wanted, with what the links lead to that it follows
 abbrev pub closed_if : Bool → Kind → List ℕ → Wanted → Wanted
-closed_if closes kind file W = if closes then closed_of kind file W else W
+closed_if closes kind file W = if follows closes kind then closed_by closes kind file W else W
 
 -- the cut for what is wanted of a file that was opened for cuts of a kind, which are closed under links or not
 abbrev pub opened_font_cut : Kind × (List ℕ × Bool) → Wanted → List ℕ

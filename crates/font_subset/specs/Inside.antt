@@ -8,8 +8,8 @@ use Rattle.font_tables.specs.Fields.{glyph_count_of}
 use Rattle.divided_tables.specs.DividedTables.{AreOpen, Made, OpenParts, made_at}
 use Rattle.font_theory.specs.Content.{is_seed, Content}
 use Rattle.font_theory.specs.Cut.{Format}
-use Rattle.font_theory.specs.Closed.{is_bad_layout_in, is_start}
-use Rattle.font_theory.specs.Kinds.{fault_of, gsub_bytes, settings, tables_of}
+use Rattle.font_theory.specs.Closed.{is_start}
+use Rattle.font_theory.specs.Kinds.{fault_of, settings, tables_of}
 use Rattle.font_theory.specs.Links.{links}
 use Rattle.font_theory.specs.declared.kinds.TheConstants.{SEQUENCES}
 use Rattle.sfnt_bytes.specs.declared.directory.TheConstants.{MAX_FILE}
@@ -18,11 +18,12 @@ use Rattle.font_theory.specs.declared.kinds.Kind.TheVariants.{Full, Layout, Lean
 use Rattle.sfnt_bytes.specs.declared.tag.TheConstants.{BASE, GDEF, GPOS, GSUB, KERN}
 use Rattle.sfnt_bytes.specs.declared.tag.TheConstants.{ALL_SLOTS, FIRST_VARIATION, SLOTS}
 use Rattle.std.specs.Prelude.{◌≡◌, ◌≢◌, ℕ, ◌+◌, ◌<◌, ◌≤◌, ◌⊎◌, ◌↔◌, nat_lt, not, ◌&&◌, ◌||◌, Bool, false, true}
-use Rattle.std.specs.Prelude.{List, [], length, slice_index_or, Option, None, IfSome}
+use Rattle.std.specs.Prelude.{List, [], ◌++◌, length, slice_index_or, is_some, Option, None, IfSome}
 use Rattle.std.specs.Prelude.{MatchOption, Some, nat_le, unwrap_or}
 use Rattle.std.specs.Option.{option_or}
 use Rattle.font_theory.specs.Content.{Wanted}
-use Rattle.font_subset.specs.CutOfKind.{closed_of, in_file}
+use Rattle.font_subset.specs.CutOfKind.{closed_by, follows, in_file, links_by}
+use Rattle.font_subset.specs.OpenedFont.{cutting_fault}
 use Rattle.font_subset.specs.KeptGlyphs.{Asked, IsKeptSet, selected, written_content}
 use Rattle.sfnt_bytes.specs.Lines.{first_of_lines}
 use Rattle.sfnt_bytes.specs.Refusals.{tag_lines}
@@ -79,25 +80,32 @@ pub record AreStarts (file : List ℕ) (wanted : Wanted) (marks : List Bool) : T
   pub starts : (g : ℕ) → has marks g ≡ is_start (map_of file) (in_file file wanted) g
 
 -- links lead to a glyph, and none begins there
-abbrev pub is_beyond : Kind → List ℕ → Wanted → ℕ → Bool
-is_beyond kind file wanted g =
-    (closed_of kind file wanted).glyphs g && not (is_start (map_of file) (in_file file wanted) g)
+abbrev pub is_beyond : Bool → Kind → List ℕ → Wanted → ℕ → Bool
+is_beyond closes kind file wanted g =
+    (closed_by closes kind file wanted).glyphs g && not (is_start (map_of file) (in_file file wanted) g)
 
--- the glyphs of what is wanted, closed under the links of a GSUB, are marked
-pub record AreClosedMarks (kind : Kind) (file : List ℕ) (wanted : Wanted) (marks : List Bool) : Type 0 where
-  pub count : length marks ≡ glyph_count_of file
-  pub glyphs :
-      (g : ℕ) → g < glyph_count_of file → has marks g ≡ (closed_of kind file wanted).glyphs g
+-- the glyphs of what is wanted, closed under the links that cuts follow, are marked
+pub record AreClosedMarks (closes : Bool) (kind : Kind) (file : List ℕ) (wanted : Wanted) (marks : List Bool) : Type 0
+  where
+    pub count : length marks ≡ glyph_count_of file
+    pub glyphs :
+        (g : ℕ) → g < glyph_count_of file → has marks g ≡ (closed_by closes kind file wanted).glyphs g
 
 -- what each number leads to by the links of a GSUB is listed
 pub record AreLinksOf (gsub : List ℕ) (listed : List (List ℕ)) : Type 0 where
   pub few : length listed ≤ 65536
   pub each : (g : ℕ) → slice_index_or listed g [] ≡ links gsub g
 
--- where cuts are closed under links, these are listed, and the GSUB that has them can be read
-abbrev pub AreLinksToFollow : Kind → List ℕ → Option (List (List ℕ)) → Type 0
-AreLinksToFollow kind file listed =
-    IfSome listed (λ links. (is_bad_layout_in (tables_of kind file) ≡ false) × AreLinksOf (gsub_bytes kind file) links)
+-- what each number leads to by some links is listed, in two lists
+pub record AreListed (leads : ℕ → List ℕ) (listed : List (List ℕ) × List (List ℕ)) : Type 0 where
+  pub each : (g : ℕ) → slice_index_or listed.0 g [] ++ slice_index_or listed.1 g [] ≡ leads g
+
+-- what is held of a font that was opened for cuts, which are closed under links or not: the links that cuts follow
+pub record IsOpenedToCut (closes : Bool) (kind : Kind) (file : List ℕ)
+    (listed : Option (List (List ℕ) × List (List ℕ))) : Type 0 where
+  pub fine : cutting_fault closes kind file ≡ None
+  pub followed : is_some listed ≡ follows closes kind
+  pub links : IfSome listed (AreListed (links_by closes kind file))
 
 -- the refusal, by the directory, of the tables of layout and of variations that cuts of a kind read
 abbrev pub tags_fault : Kind → List ℕ → Option DirError

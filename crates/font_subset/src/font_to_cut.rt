@@ -1,22 +1,23 @@
-//! What is wanted, closed under the links of `GSUB`: all glyphs that a shaper may put for those that are wanted. No cut
-//! follows links, so whoever wants cuts of text in whatever order closes what is wanted first. OpenType 1.9, GSUB.
-ghost use Rattle.std.specs.Prelude.{◌≡◌, ◌≢◌, ◌<◌, ◌&&◌, ◌||◌, ◌++◌, ℕ, [], false, true, length, nat_eq, nat_lt, Err, None, Some, IfErr, IfOk, IfSome, MatchOption, MatchResult, OnErr, OnOk, option_copied};
+//! What is wanted, with the glyphs that links lead to: those that colours name, in all cuts that keep colours, and where cuts
+//! are closed all glyphs that a shaper may put for those that are wanted. OpenType 1.9, COLR; GSUB.
+ghost use Rattle.std.specs.Prelude.{◌≡◌, ◌≢◌, ◌<◌, ◌&&◌, ◌||◌, ◌++◌, ℕ, [], Bool, false, true, length, nat_eq, nat_lt, Err, None, Some, IfErr, IfOk, IfSome, MatchOption, MatchResult, OnErr, OnOk, option_copied};
 ghost use Rattle.std.specs.Option.{option_map};
 ghost use Rattle.sfnt_bytes.specs.Memory.{IsRefused};
 ghost use Rattle.font_glyph.specs.Marks.{has};
 ghost use Rattle.font_tables.specs.Fields.{glyph_count_of};
 ghost use Rattle.font_theory.specs.Closed.{is_bad_layout_in};
-ghost use Rattle.font_theory.specs.Kinds.{fault_of, gsub_bytes, tables_of};
+ghost use Rattle.font_theory.specs.Kinds.{fault_of, tables_of};
 ghost use Rattle.font_theory.specs.Links.{is_unreadable_gsub};
 ghost use Rattle.font_theory.specs.declared.kinds.Kind.TheVariants.{Full as FullKind, Variable as VariableKind};
-ghost use Rattle.font_subset.specs.CutOfKind.{closed_of, opened_font_cut, cut_of, keeps_links};
+ghost use Rattle.font_subset.specs.CutOfKind.{closed_by, closed_of, follows, links_by, opened_font_cut, cut_of, keeps_links};
 ghost use Rattle.font_subset.specs.KeptGlyphs.{asked, glyphs_wanted, numbers_in, wanted_in};
 ghost use Rattle.font_theory.specs.Content.{Wanted as WantedSets};
-ghost use Rattle.font_subset.specs.Inside.{AreClosedMarks, AreLinksOf, AreNumbered, AreStarts, is_beyond, tags_fault};
+ghost use Rattle.font_subset.specs.Inside.{AreClosedMarks, AreListed, AreNumbered, AreStarts, is_beyond, tags_fault};
 ghost use Rattle.font_subset.specs.OpenedFont.{IsCuttingRefusal, IsOpenRefusal, closing_fault, cutting_fault};
 ghost use Rattle.font_subset.specs.declared.open_error.OpenError.TheVariants.{NoMemory as OpenNoMemory};
 
 use crate::accepted::recall_accepted;
+use crate::followed_links::{FollowedLinks, follows};
 use crate::font_of_kind::FontOfKind;
 use crate::further_tables::table_of;
 use crate::glyph_lists::{list_marks, listed_marks};
@@ -24,42 +25,12 @@ use crate::open_error::OpenError;
 use crate::selection::Seeds;
 use font_file::{Font, FontError};
 use font_glyph::{Marks, follow};
-use font_layout::{Layout, Links};
+use font_layout::Layout;
 use font_map::Wanted;
 use font_theory::Kind;
 use sfnt_bytes::{GSUB, Memory, NoMemory};
 use std::alloc::{Allocator, Global};
 use std::marker::Model;
-
-// Lists the links of a `GSUB`, or returns none where it cannot be read.
-#[tactic(auto, unfolding(font_theory::specs::Links::is_unreadable_gsub))]
-fn read_links<A: Memory + Copy>(alloc: A, gsub: &[u8]) -> Result<Option<Links<A>>, NoMemory>
-    ensures links { IfOk result (λ o. MatchOption o (is_unreadable_gsub gsub.now ≡ true)
-        (λ listed. (is_unreadable_gsub gsub.now ≡ false) × AreLinksOf gsub.now listed)) }
-    ensures there { IfErr result (λ _. length gsub.now ≢ 0) }
-    ensures memory { OnErr result (IsRefused A.refuses) }
-{
-    if gsub.is_empty() {
-        return Ok(Some(Links::none(alloc)));
-    }
-    match Layout::open(gsub) {
-        Some(layout) => {
-            let listed = Links::of(alloc, &layout)?;
-            Ok(Some(listed))
-        }
-        None => Ok(None),
-    }
-}
-
-// Returns the bytes of `GSUB` as cuts of the kind read it, none where there is no such table.
-fn gsub_of<'f, A: Allocator>(font: &'f FontOfKind<'_, '_, A>) -> &'f [u8]
-    ensures { result.now ≡ gsub_bytes font.entry.now.0 font.entry.now.1 }
-{
-    match font.copied(GSUB) {
-        Some(gsub) => gsub,
-        None => &[],
-    }
-}
 
 // Returns the marks with those of some numbers that are below a count.
 fn with_glyphs<A: Allocator>(mut marks: Marks<A>, count: u16, glyphs: &[u16]) -> Marks<A>
@@ -102,16 +73,16 @@ fn marked_starts<A: Memory + Copy>(
 fn mark_closed<A: Memory + Copy>(
     alloc: A,
     font: &FontOfKind<'_, '_, A>,
-    links: &Links<A>,
+    links: &FollowedLinks<A>,
     starts: &Marks<A>,
     count: u16,
 ) -> Result<Marks<A>, NoMemory>
-    requires links { AreLinksOf (gsub_bytes font.now.0 font.now.1) links.now }
     requires count { count ≡ glyph_count_of font.now.1 }
     requires starts { length starts.now ≡ count }
     ensures count { IfOk result (λ marks. length marks ≡ count) }
-    ensures closed { IfOk result (λ marks. (wanted : WantedSets) → AreStarts font.now.1 wanted starts.now →
-        AreClosedMarks font.now.0 font.now.1 wanted marks) }
+    ensures closed { IfOk result (λ marks. (closes : Bool) → AreListed (links_by closes font.now.0 font.now.1) links.now →
+        (wanted : WantedSets) → AreStarts font.now.1 wanted starts.now →
+        AreClosedMarks closes font.now.0 font.now.1 wanted marks) }
     ensures memory { OnErr result (IsRefused A.refuses) }
 {
     let marks = follow(alloc, links, starts, count)?;
@@ -122,12 +93,13 @@ fn mark_closed<A: Memory + Copy>(
 fn closed_glyphs<A: Memory + Copy>(
     alloc: A,
     font: &FontOfKind<'_, '_, A>,
-    links: &Links<A>,
+    links: &FollowedLinks<A>,
     codes: Option<&Wanted<A>>,
     glyphs: &[u16],
 ) -> Result<Vec<u16, A>, NoMemory>
-    requires { AreLinksOf (gsub_bytes font.now.0 font.now.1) links.now }
-    ensures glyphs { IfOk result (λ listed. listed.items ≡ numbers_in (closed_of font.now.0 font.now.1
+    ensures glyphs { IfOk result (λ listed. (closes : Bool) →
+        AreListed (links_by closes font.now.0 font.now.1) links.now →
+        listed.items ≡ numbers_in (closed_by closes font.now.0 font.now.1
         (wanted_in (asked (option_copied codes.entry) (Some glyphs.now)))).glyphs (glyph_count_of font.now.1)) }
     ensures memory { OnErr result (IsRefused A.refuses) }
 {
@@ -144,13 +116,14 @@ fn closed_glyphs<A: Memory + Copy>(
 fn linked_numbers<A: Memory + Copy>(
     alloc: A,
     font: &FontOfKind<'_, '_, A>,
-    links: &Links<A>,
+    links: &FollowedLinks<A>,
     seeds: &Seeds<'_, '_, A>,
     glyphs: &[u16],
 ) -> Result<Vec<u16, A>, NoMemory>
-    requires links { AreLinksOf (gsub_bytes font.now.0 font.now.1) links.now }
-    requires seeds { seeds.now.0 ≡ font.now.1 }
-    ensures numbers { IfOk result (λ listed. listed.items ≡ glyphs.now ++ numbers_in (is_beyond font.now.0 font.now.1
+    requires { seeds.now.0 ≡ font.now.1 }
+    ensures numbers { IfOk result (λ listed. (closes : Bool) →
+        AreListed (links_by closes font.now.0 font.now.1) links.now →
+        listed.items ≡ glyphs.now ++ numbers_in (is_beyond closes font.now.0 font.now.1
         (wanted_in (asked seeds.now.1 (Some glyphs.now)))) (glyph_count_of font.now.1)) }
     ensures memory { OnErr result (IsRefused A.refuses) }
 {
@@ -239,38 +212,46 @@ fn first_refusal(kind: Kind, font: &Font<'_>, error: FontError) -> FontError
     }
 }
 
-// Returns why a font that could not be opened is refused for cuts that are closed under links, or that there is no
+// Returns why a font that could not be opened is refused for cuts that are closed under links or not, or that there is no
 // memory.
-fn closing_refusal(kind: Kind, font: &Font<'_>, error: OpenError) -> OpenError
+fn cutting_refusal(kind: Kind, closes: bool, font: &Font<'_>, error: OpenError) -> OpenError
     requires { IsOpenRefusal kind font.now error }
-    ensures refusal { IsCuttingRefusal true kind font.now result }
+    ensures refusal { IsCuttingRefusal closes kind font.now result }
     ensures memory { result ≡ OpenNoMemory → error ≡ OpenNoMemory }
 {
     match error {
         OpenError::NoMemory => OpenError::NoMemory,
-        OpenError::Refused(error) => OpenError::Refused(first_refusal(kind, font, error)),
+        OpenError::Refused(error) => {
+            if closes {
+                OpenError::Refused(first_refusal(kind, font, error))
+            } else {
+                OpenError::Refused(error)
+            }
+        }
     }
 }
 
-/// A font that was opened for cuts of a kind, which may serve many. Its cuts are closed under the links of its `GSUB`, which
-/// were read then, or have just what is wanted and its components.
+/// A font that was opened for cuts of a kind, which may serve many. Its cuts have what is wanted, its components, and what the
+/// links lead to that they follow, which were read then: those of its colours, where cuts of the kind keep colours, and those
+/// of its `GSUB` where cuts are closed.
 pub struct FontToCut<'f, 'a, A: Allocator = Global> {
     font: FontOfKind<'f, 'a, A>,
-    // The links, where cuts are closed under these. In full and lean cuts, which keep no tables of layout, there are none.
-    links: Option<Links<A>>,
+    // The links, where cuts follow any.
+    links: Option<FollowedLinks<A>>,
+    closes: bool,
 }
 
 // Its value is the kind, the file of the font, and whether cuts are closed under links.
 impl<'f, 'a, A: Allocator> Model for FontToCut<'f, 'a, A> {
-    ghost use Rattle.std.specs.Prelude.{Bool, ℕ, List, is_some};
+    ghost use Rattle.std.specs.Prelude.{Bool, ℕ, List};
     ghost use Rattle.font_theory.specs.declared.kinds.Kind.{Kind};
-    ghost use Rattle.font_subset.specs.Inside.{AreLinksToFollow};
+    ghost use Rattle.font_subset.specs.Inside.{IsOpenedToCut};
 
     ghost Value = { Kind × (List ℕ × Bool) };
 
-    ghost view = { λ f. (f.font.0, (f.font.1, is_some f.links)) };
+    ghost view = { λ f. (f.font.0, (f.font.1, f.closes)) };
 
-    ghost invariant = { λ f. AreLinksToFollow f.font.0 f.font.1 f.links };
+    ghost invariant = { λ f. IsOpenedToCut f.closes f.font.0 f.font.1 f.links };
 }
 
 impl<'f, 'a, A: Allocator> Drop for FontToCut<'f, 'a, A> {
@@ -278,6 +259,7 @@ impl<'f, 'a, A: Allocator> Drop for FontToCut<'f, 'a, A> {
         let FontToCut {
             font: _font,
             links: _links,
+            closes: _,
         } = self;
     }
 }
@@ -287,9 +269,20 @@ impl<'f, 'a, A: Allocator> FontToCut<'f, 'a, A> {
     pub(crate) fn full(font: &'f Font<'a>) -> FontToCut<'f, 'a, A>
         ensures { result ≡ (FullKind, (font.entry.now, false)) }
     {
+        FontToCut::unlinked(FontOfKind::full(font))
+    }
+
+    // Takes a font for cuts that follow no links.
+    fn unlinked(font: FontOfKind<'f, 'a, A>) -> FontToCut<'f, 'a, A>
+        requires { follows false font.0 ≡ false }
+        ensures opened { result ≡ (font.entry.0, (font.entry.1, false)) }
+        ensures sound { cutting_fault false font.entry.0 font.entry.1 ≡ None }
+    {
+        font.recall_accepted();
         FontToCut {
-            font: FontOfKind::full(font),
+            font,
             links: None,
+            closes: false,
         }
     }
 
@@ -315,13 +308,14 @@ impl<'f, 'a, A: Allocator> FontToCut<'f, 'a, A> {
 }
 
 impl<'f, 'a, A: Memory + Copy> FontToCut<'f, 'a, A> {
-    /// Opens an accepted font for cuts of a kind, which are closed under links or not. Links are read for layout and
-    /// variable cuts that are to be closed, and a `GSUB` that cannot be read refuses these alone.
+    /// Opens an accepted font for cuts of a kind, which are closed under links or not. Links of `GSUB` are read for layout and
+    /// variable cuts that are to be closed, and a `GSUB` that cannot be read refuses these alone. Links of colours are read
+    /// for all layout and variable cuts, and a `COLR` of which it is not known which glyphs it names refuses these.
     ///
     /// # Errors
     ///
     /// `NoMemory` if out of memory, of layout and variable cuts alone, and `Refused` with the first refusal that
-    /// applies: that of `GSUB` comes before that of `gvar`.
+    /// applies: that of `GSUB` comes before that of `gvar`, and that of `COLR` last.
     pub fn open(
         alloc: A,
         kind: Kind,
@@ -333,31 +327,33 @@ impl<'f, 'a, A: Memory + Copy> FontToCut<'f, 'a, A> {
         ensures sound { IfOk result (λ _. cutting_fault closes kind font.entry.now ≡ None) }
         ensures memory { result ≡ Err OpenNoMemory → IsRefused A.refuses }
     {
-        if !closes {
-            let font = FontOfKind::open(alloc, kind, font)?;
-            return Ok(FontToCut { font, links: None });
-        }
         match FontOfKind::open(alloc, kind, font) {
-            Ok(opened) => FontToCut::with_links(alloc, opened),
-            Err(error) => Err(closing_refusal(kind, font, error)),
+            Ok(opened) => FontToCut::with_links(alloc, opened, closes),
+            Err(error) => Err(cutting_refusal(kind, closes, font, error)),
         }
     }
 
-    // Reads the links of a font that was opened for cuts of a kind.
-    fn with_links(alloc: A, font: FontOfKind<'f, 'a, A>) -> Result<FontToCut<'f, 'a, A>, OpenError>
-        ensures exact { MatchResult result (λ opened. opened ≡ (font.entry.0, (font.entry.1, true)))
-            (IsCuttingRefusal true font.entry.0 font.entry.1) }
-        ensures sound { IfOk result (λ _. cutting_fault true font.entry.0 font.entry.1 ≡ None) }
+    // Reads the links that cuts follow of a font that was opened for cuts of a kind.
+    fn with_links(
+        alloc: A,
+        font: FontOfKind<'f, 'a, A>,
+        closes: bool,
+    ) -> Result<FontToCut<'f, 'a, A>, OpenError>
+        ensures exact { MatchResult result (λ opened. opened ≡ (font.entry.0, (font.entry.1, closes)))
+            (IsCuttingRefusal closes font.entry.0 font.entry.1) }
+        ensures sound { IfOk result (λ _. cutting_fault closes font.entry.0 font.entry.1 ≡ None) }
         ensures memory { result ≡ Err OpenNoMemory → IsRefused A.refuses }
     {
-        font.recall_accepted();
-        let listed = read_links(alloc, gsub_of(&font))?;
-        match listed {
-            Some(links) => Ok(FontToCut {
+        if !follows(closes, font.kind()) {
+            return Ok(FontToCut::unlinked(font));
+        }
+        match FollowedLinks::of(alloc, &font, closes) {
+            Ok(links) => Ok(FontToCut {
                 font,
                 links: Some(links),
+                closes,
             }),
-            None => Err(OpenError::Refused(FontError::BadLayout)),
+            Err(error) => Err(error),
         }
     }
 
@@ -386,8 +382,7 @@ impl<'f, 'a, A: Memory + Copy> FontToCut<'f, 'a, A> {
     }
 
     /// Lists the glyphs that a cut of the font has to be asked for beside the wanted codes, or all codes if no set is given:
-    /// the given ones, and what links lead to beyond these and the glyphs of the codes if the font was opened for cuts that
-    /// are closed. The answer is no list, which stands for all glyphs, if none is given.
+    /// the given ones, and what the links that cuts follow lead to beyond these and the glyphs of the codes. The answer is no list, which stands for all glyphs, if none is given.
     ///
     /// # Errors
     ///

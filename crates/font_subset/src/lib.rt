@@ -5,6 +5,7 @@ mod accepted;
 mod cut_font;
 mod cut_forms;
 mod cut_source;
+mod followed_links;
 mod font_of_kind;
 mod font_to_cut;
 mod forms;

@@ -1,6 +1,6 @@
 use Rattle.std.proofs.Common.{rules}
 use Rattle.font_subset.proofs.ClosingLemmas.{empty_links}
-use Rattle.font_subset.proofs.font_to_cut.read_links.Goals as goal
+use Rattle.font_subset.proofs.followed_links.read_links.Goals as goal
 
 pub returns-then-is_empty-clause-links : goal.returns-then-is_empty-clause-links
 returns-then-is_empty-clause-links g c =
