@@ -76,7 +76,7 @@ typedef struct fontcut_losses {
                                 * cannot be read then */
     uint32_t first_missing, first_unshaped; /* the first of these characters, and the first one of these scripts */
     uint32_t axes, colours;      /* how many axes it has, if the cut has none; and the tag of the first table with
-                                  * colours, which cuts drop */
+                                  * colours that the cut drops */
     uint32_t sequence, selector; /* the character and selector of a wanted variation sequence, if the cut has none */
 } fontcut_losses;
 

@@ -131,7 +131,7 @@ class Losses(NamedTuple):
     first_missing   the first of the missing code points
     first_unshaped  the first wanted code point of these scripts
     axes            how many axes the font has, if the cut has none
-    colours         the tag of the first table with colours, which cuts drop, or ""
+    colours         the tag of the first table with colours that the cut drops, or ""
     sequence        the code point of a wanted variation sequence of the font, if the cut has none
     selector        its selector
     """

@@ -101,7 +101,7 @@ export interface Losses {
     firstUnshaped: number;
     /** How many axes the font has, if the cut has none. */
     axes: number;
-    /** The tag of the first table with colours, which cuts drop, or ''. */
+    /** The tag of the first table with colours that the cut drops, or ''. */
     colours: string;
     /** The code point of a wanted variation sequence of the font, if the cut has none, and its selector. */
     sequence: number;

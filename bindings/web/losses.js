@@ -164,6 +164,7 @@ export function* lossesOf(name, font, kind, { wanted, named, texts, hasGlyphs, l
             + 'add --layout';
     }
     if (found.colours) {
-        yield `${name} has colours (${found.colours}), which cuts drop`;
+        const told = found.colours === 'COLR' ? 'which this cut drops: add --layout' : 'which cuts drop';
+        yield `${name} has colours (${found.colours}), ${told}`;
     }
 }

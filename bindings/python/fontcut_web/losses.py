@@ -47,4 +47,5 @@ def lines(name: str, font: fontcut.Font, codes: Sequence[int], kind: str, is_nam
     if lost.axes and is_named:
         yield f"{name} varies {', '.join(_axes(font.data))}: take --variable, or --quiet"
     if lost.colours:
-        yield f"{name} has colours ({lost.colours}), which cuts drop"
+        told = f"which a {kind} cut drops: take --layout" if lost.colours == "COLR" else "which cuts drop"
+        yield f"{name} has colours ({lost.colours}), {told}"

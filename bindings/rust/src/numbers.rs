@@ -48,7 +48,7 @@ pub struct Losses {
     pub first_unshaped: u32,
     /// How many axes the font has, if the cut has none.
     pub axes: u32,
-    /// The tag of the first table with colours, which cuts drop: its four bytes as a number, the first one highest.
+    /// The tag of the first table with colours that the cut drops: its four bytes as a number, the first one highest.
     pub colours: u32,
     /// The character of a wanted variation sequence of the font, if the cut has none.
     pub sequence: u32,

@@ -8,7 +8,7 @@ use crate::outcome::{Outcome, STANDARD_OUTPUT, answered, print_more};
 use crate::paths::inputs::{font_in, inlet_at, read_whole};
 use command_line::Verbosity;
 use commands::run_show;
-use font_coverage::{is_cut_of, is_of_layout, is_of_variations, sequence_count};
+use font_coverage::{is_cut_of, is_of_colours, is_of_layout, is_of_variations, sequence_count};
 use font_file::Font;
 use font_subset::OpenError;
 use font_texts::add_variations;
@@ -25,12 +25,14 @@ const KINDS: [(&str, Kind); 3] = [
     ("variable", Kind::Variable),
 ];
 
-// Adds a line for each table of layout or of variations, in the order of the file.
+// Adds a line for each table of layout, colours or variations, in the order of the file.
 fn add_tables(text: &mut String, font: &Font<'_>) -> Result<(), AllocError> {
     for entry in font.tables().directory().dropped() {
         let (tag, length) = (entry.tag, entry.length);
         if is_of_layout(tag) {
             write!(text, "layout {tag} {length}\n")?;
+        } else if is_of_colours(tag) {
+            write!(text, "colours {tag} {length}\n")?;
         } else if is_of_variations(tag) {
             write!(text, "variations {tag} {length}\n")?;
         }

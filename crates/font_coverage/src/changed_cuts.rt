@@ -1,5 +1,5 @@
 //! Cuts that were changed: fonts that are in no form of a cut, and have the tables and the `cmap` of one.
-use crate::coverage_lines::{is_of_layout, is_of_variations};
+use crate::coverage_lines::{is_of_colours, is_of_layout, is_of_variations};
 use crate::cut_kinds::cut_kind;
 use crate::sequences::has_sequence;
 use font_file::Font;
@@ -83,7 +83,7 @@ fn kind_by_tables(font: &Font<'_>) -> Option<Kind> {
         let tag = entry.tag;
         if is_of_variations(tag) {
             kind = Kind::Variable;
-        } else if !is_of_layout(tag) {
+        } else if !(is_of_layout(tag) || is_of_colours(tag)) {
             return None;
         } else if kind != Kind::Variable {
             kind = Kind::Layout;

@@ -1,6 +1,6 @@
 //! What `--report` says of a font: the wanted codes that it lacks, and the tables that a cut of it drops.
 use crate::kept::Kept;
-use crate::lost::add_never_kept;
+use crate::lost::{add_never_kept, has_colours};
 use crate::sequence_glyphs::WantedSequences;
 use codes::{CODES, Wanted};
 use font_file::Font;
@@ -9,7 +9,7 @@ use font_subset::{CutOfKind, FontOfKind, FontToCut, OpenError, keeps_layout, num
 use font_texts::{shaped_scripts, shown_character};
 use font_theory::Kind;
 use font_write::Source;
-use sfnt_bytes::{LAYOUT, NoMemory, Tag, VARIATIONS};
+use sfnt_bytes::{COLOURS, LAYOUT, NoMemory, Tag, VARIATIONS};
 use std::alloc::{AllocError, Global};
 use wanted_characters::{CodeSet, count_of};
 
@@ -197,10 +197,16 @@ pub fn is_of_variations(tag: Tag) -> bool {
     VARIATIONS.contains(&tag)
 }
 
-/// Returns whether cuts of a kind keep a table that full cuts drop.
-pub(crate) fn keeps_table(kind: Kind, tag: Tag) -> bool {
+/// Returns whether a table is one of colours.
+pub fn is_of_colours(tag: Tag) -> bool {
+    COLOURS.contains(&tag)
+}
+
+/// Returns whether cuts of a kind keep a table of a font that full cuts drop.
+pub(crate) fn keeps_table(kind: Kind, font: &Font<'_>, tag: Tag) -> bool {
     let varies = kind == Kind::Variable && is_of_variations(tag);
-    varies || keeps_layout(kind) && is_of_layout(tag)
+    let is_kept = is_of_layout(tag) || is_of_colours(tag) && has_colours(font);
+    varies || keeps_layout(kind) && is_kept
 }
 
 // Adds a line for each table that a cut of a kind drops, or keeps beside those of every cut, and one for the bytes
@@ -209,7 +215,7 @@ fn add_font(text: &mut String, kind: Kind, font: &Font<'_>) -> Result<(), AllocE
     let directory = font.tables().directory();
     for entry in directory.dropped() {
         let (tag, length) = (entry.tag, entry.length);
-        if keeps_table(kind, tag) {
+        if keeps_table(kind, font, tag) {
             write!(text, "kept {tag} {length}\n")?;
         } else {
             write!(text, "dropped {tag} {length}\n")?;

@@ -62,7 +62,7 @@ fn is_rather_full(alloc: Global, font: &Font<'_>, is_lean: bool) -> Result<bool,
 // a cut of the kind exactly if it is a lean one.
 fn has_more(kind: Kind, font: &Font<'_>) -> bool {
     for entry in font.tables().directory().dropped() {
-        if keeps_table(kind, entry.tag) {
+        if keeps_table(kind, font, entry.tag) {
             return true;
         }
     }

@@ -14,7 +14,7 @@ mod sequences;
 
 pub use crate::changed_cuts::{FileForm, file_form, is_cmap_of_cut, may_be_cut};
 pub use crate::coverage_lines::{
-    Coverage, is_of_layout, is_of_variations, linked_count, mapped_codes,
+    Coverage, is_of_colours, is_of_layout, is_of_variations, linked_count, mapped_codes,
 };
 pub use crate::cut_kinds::{cut_kind, is_cut_of, kind_of_cut};
 pub use crate::kept::{Kept, WantedCodes};

@@ -21,7 +21,7 @@ pub struct Losses {
     pub first_unshaped: u32,
     /// How many axes the font has, where the cut has none.
     pub axes: u32,
-    /// The tag of the first table with colours, as a number.
+    /// The tag of the first table with colours that the cut drops, as a number.
     pub colours: u32,
     /// The character of a wanted variation sequence of the font, where the cut drops it.
     pub sequence: u32,
@@ -52,7 +52,7 @@ pub fn count_losses(
     let ranges = unshaped_ranges(alloc, font, kind, wanted, false)?;
     let (scripts, first_unshaped) = complex_count(alloc, font, &ranges)?;
     let (sequence, selector) = lost_sequence(font, kind, wanted).unwrap_or((0, 0));
-    let colours = match first_colours(font) {
+    let colours = match first_colours(font, kind) {
         Some((tag, _)) => u32::from_be_bytes(tag.0),
         None => 0,
     };

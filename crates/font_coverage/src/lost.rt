@@ -264,19 +264,31 @@ fn add_sequence(text: &mut String, font: &Font<'_>, asked: Asked<'_>) -> Result<
     Ok(())
 }
 
-// Returns the name of a table that has colours of glyphs.
+/// The table with colours that some cuts keep.
+const COLR: Tag = Tag(*b"COLR");
+
+/// Returns whether a font has `COLR`, beside which alone its palettes are kept.
+pub(crate) fn has_colours(font: &Font<'_>) -> bool {
+    let mut dropped = font.tables().directory().dropped();
+    dropped.any(|entry| entry.tag == COLR)
+}
+
+// Returns the name of a table that has colours of glyphs, which no cut keeps.
 fn colours_of(tag: Tag) -> Option<&'static str> {
     match &tag.0 {
         b"CBDT" => Some("CBDT"),
-        b"COLR" => Some("COLR"),
         b"SVG " => Some("SVG"),
         b"sbix" => Some("sbix"),
         _ => None,
     }
 }
 
-/// Returns the first table of a font that has colours of glyphs, and its name.
-pub(crate) fn first_colours(font: &Font<'_>) -> Option<(Tag, &'static str)> {
+/// Returns `COLR` or else the first table of a font that has colours of glyphs, and its name, where cuts of a kind drop all
+/// of these.
+pub(crate) fn first_colours(font: &Font<'_>, kind: Kind) -> Option<(Tag, &'static str)> {
+    if has_colours(font) {
+        return Some((COLR, "COLR")).filter(|_| !keeps_layout(kind));
+    }
     for entry in font.tables().directory().dropped() {
         if let Some(name) = colours_of(entry.tag) {
             return Some((entry.tag, name));
@@ -285,20 +297,21 @@ pub(crate) fn first_colours(font: &Font<'_>) -> Option<(Tag, &'static str)> {
     None
 }
 
-// Adds a line that says that a font has colours, where it has.
-fn add_colours(text: &mut String, font: &Font<'_>, name: &str) -> Result<(), AllocError> {
-    if let Some((_, table)) = first_colours(font) {
-        let name = Shown(name);
-        write!(
-            text,
-            "fontcut: {name} has colours ({table}), which cuts drop\n"
-        )?;
+// Adds a line that says that a font has colours, where it has some that the cut drops.
+fn add_colours(text: &mut String, font: &Font<'_>, asked: Asked<'_>) -> Result<(), AllocError> {
+    if let Some((tag, table)) = first_colours(font, asked.kind) {
+        let name = Shown(asked.name);
+        let told = if tag == COLR {
+            "which this cut drops: add --layout"
+        } else {
+            "which cuts drop"
+        };
+        write!(text, "fontcut: {name} has colours ({table}), {told}\n")?;
     }
     Ok(())
 }
 
-/// Adds the lines of a report on what full and lean cuts drop, a variation sequence that is wanted, and on what each cut
-/// drops, colours, where a font has them.
+/// Adds the lines of a report on what a cut drops: a variation sequence that is wanted, and colours, where a font has them.
 ///
 /// # Errors
 /// `AllocError` if out of memory.
@@ -314,8 +327,13 @@ pub(crate) fn add_never_kept(
             "sequence U+{code:X} U+{selector:X}: --layout keeps variation sequences\n"
         )?;
     }
-    if let Some((_, table)) = first_colours(font) {
-        write!(text, "colours {table}: cuts drop colours\n")?;
+    if let Some((tag, table)) = first_colours(font, kind) {
+        let told = if tag == COLR {
+            "--layout keeps colours"
+        } else {
+            "cuts drop colours"
+        };
+        write!(text, "colours {table}: {told}\n")?;
     }
     Ok(())
 }
@@ -340,6 +358,6 @@ pub fn losses(alloc: Global, font: &Font<'_>, asked: Asked<'_>) -> Result<String
     add_scripts(alloc, &mut text, font, asked)?;
     add_axes(alloc, &mut text, font, asked)?;
     add_sequence(&mut text, font, asked)?;
-    add_colours(&mut text, font, asked.name)?;
+    add_colours(&mut text, font, asked)?;
     Ok(text)
 }
