@@ -8,6 +8,7 @@ its variation data are empty, its own metrics are zero, and no variation sequenc
 from functools import lru_cache
 from typing import AbstractSet, Callable, Container, Mapping, NamedTuple, Optional, Sequence
 
+from colour_reading import Colour
 from font_cutting import (ALL, Ranges, assembled, kept_glyphs, outlines, padded, ranges_of, sequences, wanted_map,
                           whole_map)
 from font_joining import file_refusal
@@ -40,16 +41,17 @@ def either(*wanted: Wanted) -> Wanted:
 
 class Glyph(NamedTuple):
     """What a font has of a glyph: its outline, which is filled up with zeros to a multiple of 4; its bytes of metrics,
-    without the advance of the last pair, which other glyphs have too; its variation data; and its variation
-    sequences."""
+    without the advance of the last pair, which other glyphs have too; its variation data; its variation sequences; and
+    in kinds of cuts that keep them its colours."""
 
     outline: bytes
     metrics: bytes
     data: bytes
     pairs: tuple[Pair, ...]
+    colour: Optional[Colour] = None
 
     def is_blank(self) -> bool:
-        return not (self.outline or any(self.metrics) or self.data or self.pairs)
+        return not (self.outline or any(self.metrics) or self.data or self.pairs or self.colour)
 
 
 def no_data(_: bytes) -> Sequence[bytes]:
@@ -153,6 +155,14 @@ class CutKind(NamedTuple):
     def closed_cut(self, file: bytes, wanted: Wanted) -> bytes:
         """The cut for the closure of what is wanted."""
         return self.cut(file, self.closure(file, wanted))
+
+    def exact_cut(self, file: bytes, wanted: Wanted) -> bytes:
+        """The cut for an exact request, for which no links of GSUB are followed."""
+        return self.cut(file, wanted)
+
+    def exact_refusal(self, file: bytes) -> Optional[Refusal]:
+        """The first refusal of a font that is accepted as such, for exact requests."""
+        return self.refusal(file)
 
 
 def accepted(_: bytes) -> None:

@@ -53,6 +53,10 @@ class Kind(NamedTuple):
         return len(here.keys() | there.keys()) <= MOST_PAIRS and all(
             here[pair] == there[pair] for pair in here.keys() & there.keys())
 
+    def table_too_long(self, first: bytes, second: bytes) -> Optional[bytes]:
+        """The tag of the table that has no room for what belongs to glyphs of both cuts, or None."""
+        return None if self.has_room(first, second) else b"cmap"
+
 
 def shared(file: bytes) -> dict[bytes, bytes]:
     """By tag what two lean cuts of one font have in common of their copied tables."""
@@ -85,7 +89,8 @@ def difference_refusal(first: bytes, second: bytes, kind: Kind) -> Optional[Refu
     glyph = kind.different_glyph(first, second)
     if glyph is not None:
         return 23, f"different glyph {glyph}"
-    return None if kind.has_room(first, second) else (29, "table too long cmap")
+    tag = kind.table_too_long(first, second)
+    return None if tag is None else (29, f"table too long {tag_text(tag)}")
 
 
 def with_metrics(table: bytes, other: bytes, pairs: int, glyphs: Iterable[int]) -> bytes:

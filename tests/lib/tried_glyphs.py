@@ -32,7 +32,7 @@ def subset(cuts: CutKind, path: str, out: str, wanted: Wanted, how: str = EXACTL
 
 def refusal_of(cuts: CutKind, file: bytes, how: str) -> Optional[Refusal]:
     """The first refusal of a font for a cut that is closed or not."""
-    return file_refusal(file) or (cuts.refusal if how == EXACTLY else cuts.closing_refusal)(file)
+    return file_refusal(file) or (cuts.exact_refusal if how == EXACTLY else cuts.closing_refusal)(file)
 
 
 def made_as_read(cuts: CutKind, paths: Sequence[str], name: str, wanted: Wanted,
@@ -46,7 +46,7 @@ def made_as_read(cuts: CutKind, paths: Sequence[str], name: str, wanted: Wanted,
         same(f"{name}: refused", (1, b"", line.encode()), subset(cuts, path, out, wanted, how))
         return None
     same(f"{name}: subset", DONE, subset(cuts, path, out, wanted, how))
-    made = cuts.cut(font, wanted) if how == EXACTLY else cuts.closed_cut(font, wanted)
+    made = cuts.exact_cut(font, wanted) if how == EXACTLY else cuts.closed_cut(font, wanted)
     same_bytes(f"{name}: the cut", made, held(out))
     return made
 

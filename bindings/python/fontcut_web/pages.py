@@ -204,6 +204,9 @@ def decoded(data: bytes) -> str:
         return data.decode(name)
     except LookupError as error:
         raise Refused(f"it has the encoding {name}, which is not known") from error
+    except UnicodeDecodeError as error:
+        raise Refused(f"it is not in {name}: byte 0x{data[error.start]:02X} at {error.start}; name its encoding in a meta "
+                      "element, as <meta charset=iso-8859-1>") from error
     except UnicodeError as error:
         raise Refused(f"it is not in {name}: {error}") from error
 

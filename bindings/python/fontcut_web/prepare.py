@@ -20,6 +20,7 @@ from .preparing import Limit, Prepared, PrepareOptions
 from .replaced import check_unpacked, is_same
 from .sets import codes_of, range_words, some_words
 from .shaping import Setting, place_of
+from .shown import LOST, Shown, letters_of, read_styles, shown_by
 
 # By how many units an instance of fontTools may differ from what HarfBuzz makes of the variable font: each rounds other
 # sums.
@@ -63,12 +64,27 @@ def _unicodes(words: Optional[str], font: fontcut.Font) -> Set[str]:
     return {chr(code) for code in codes_in(ranges) if not 0xD800 <= code <= 0xDFFF}
 
 
-def _wanted(given: argparse.Namespace, font: fontcut.Font) -> Wanted:
-    """What a command line asks a font to be prepared for."""
-    if not any((given.languages, given.scripts, given.unicodes, given.pages)):
-        raise UsageError("name what the font is prepared for: --languages, --scripts, --unicodes or --pages")
-    pages = read_pages(given.pages or [], ": FONT and OUT come before --pages")
-    letters = characters.of_texts([page.text for page in pages]) | _unicodes(given.unicodes, font)
+def _shown(paths: Sequence[str]) -> List[Shown]:
+    """What pages in files show, with their style sheets. Says which of these are not there."""
+    found = read_pages(paths, ": FONT and OUT come before --pages")
+    pages = [shown_by(page, path, read_styles(page, path)) for page, path in zip(found, paths)]
+    for line in (line for page in pages for line in page.unknown if LOST in line):
+        print(f"fontcut-web: {line}", file=sys.stderr)
+    return pages
+
+
+def _with_features(words: str, font: fontcut.Font, pages: Sequence[Shown]) -> str:
+    """The list of features that stay, with those of a font that style sheets of pages turn on."""
+    asked = preparing.features_of(words)
+    if asked is None:
+        return words
+    turned_on = set().union(*(page.turned_on for page in pages)) - set(asked)
+    return ",".join([words, *sorted(turned_on - set(preparing.lacking_features(font.data, turned_on)))])
+
+
+def _wanted(given: argparse.Namespace, font: fontcut.Font, pages: Sequence[Shown]) -> Wanted:
+    """What a command line asks a font to be prepared for, with pages."""
+    letters = set().union(*map(letters_of, pages)) | _unicodes(given.unicodes, font)
     letters |= characters.of_languages(_listed(given.languages)) if given.languages else set()
     letters |= characters.of_scripts(_listed(given.scripts), font) if given.scripts else set()
     codes = mapped(font, letters)
@@ -234,7 +250,12 @@ def run(given: argparse.Namespace) -> None:
     font = accepted(given.font)
     asked = set(features or []) - set(preparing.default_features())
     check_spelling(given.font, preparing.lacking_features(font.data, asked))
-    wanted = _wanted(given, font)
+    if not any((given.languages, given.scripts, given.unicodes, given.pages)):
+        raise UsageError("name what the font is prepared for: --languages, --scripts, --unicodes or --pages")
+    pages = _shown(given.pages or [])
+    given.features = _with_features(given.features, font, pages)
+    wanted = _wanted(given, font, pages)
+    features = preparing.features_of(given.features)
     how = PrepareOptions(wanted.codes, features, not given.no_hinting, limits, given.names, given.kern)
     one = made_of(given.font, font, wanted, how)
     record = json.dumps(_record(given, read(given.font), wanted, one), indent=2, ensure_ascii=True) + "\n"

@@ -169,7 +169,7 @@ def cased(text: str, case: str, languages: Sequence[str]) -> List[str]:
     """A text in another case, as browsers write it in some languages."""
     known = {language[:2].lower() for language in languages}
     if case == "capitalize":
-        return [re.sub(r"(?<![\w'\u2019])\w", lambda found: found[0].upper(), text)]
+        return [re.sub(r"(?<![\w'\u2019])\w", lambda found: found[0].title(), text)]
     made = [text.upper() if case == "uppercase" else text.lower()]
     if known & {"tr", "az"}:
         made.append(text.replace("i", "\u0130").upper() if case == "uppercase" else text.replace("I", "\u0131").lower())

@@ -297,10 +297,8 @@ impl<'t> Model for LayerTable<'t> {
 impl<'t> LayerTable<'t> {
     /// Opens a table among so many glyphs, if it is of version 0, and divided.
     pub fn open(bytes: &'t [u8], count: u16) -> Option<LayerTable<'t>>
-        ensures {
-            MatchOption result (is_layer_table count bytes.now ≡ false)
-                (λ t. (t ≡ (bytes.now, count)) × (is_layer_table count bytes.now ≡ true))
-        }
+        ensures { MatchOption result (is_layer_table count bytes.now ≡ false)
+            (λ t. (t ≡ (bytes.now, count)) × (is_layer_table count bytes.now ≡ true)) }
     {
         if !is_layer_table(bytes, count) {
             return None;
@@ -393,10 +391,8 @@ impl<'t> Model for PaintTable<'t> {
 impl<'t> PaintTable<'t> {
     /// Opens a table among so many glyphs, if it is of version 1, and divided.
     pub fn open(bytes: &'t [u8], count: u16) -> Option<PaintTable<'t>>
-        ensures {
-            MatchOption result (is_paint_table count bytes.now ≡ false)
-                (λ t. (t ≡ (bytes.now, count)) × (is_paint_table count bytes.now ≡ true))
-        }
+        ensures { MatchOption result (is_paint_table count bytes.now ≡ false)
+            (λ t. (t ≡ (bytes.now, count)) × (is_paint_table count bytes.now ≡ true)) }
     {
         if !is_paint_table(bytes, count) {
             return None;

@@ -82,7 +82,8 @@ impl<'t> TableTree<'t> {
 
     /// Returns how many bytes are left of so many after its own, none where it has more.
     pub fn room_after(&self, room: u64) -> Option<u64>
-        ensures { MatchOption result (room < tree_size (tree_of self.now)) (λ left. left + tree_size (tree_of self.now) ≡ room) }
+        ensures { MatchOption result (room < tree_size (tree_of self.now))
+            (λ left. left + tree_size (tree_of self.now) ≡ room) }
     {
         room_after(self.bytes, self.count, self.at, self.kind, self.depth, room)
     }

@@ -1,5 +1,5 @@
 -- A table of version 0 that is written, piece by piece.
-use Rattle.std.proofs.Common.{◌≡◌, ℕ, ◌+◌, ◌<◌, ◌≤◌, true, List, [], ◌++◌, length, length-append, Option, sym, ap, ◌∙◌}
+use Rattle.std.proofs.Common.{◌≡◌, ℕ, ◌<◌, ◌≤◌, true, List, [], ◌++◌, length, length-append, Option, ap, ◌∙◌}
 use Rattle.std.proofs.Common.{arith}
 use Rattle.colour_tables.specs.LayerLists.{layers_have_room}
 use Rattle.colour_tables.specs.ListedGlyphs.{listed}

@@ -1,14 +1,12 @@
 -- What is picked of two tables.
-use Rattle.std.proofs.Common.{◌≡◌, ℕ, true, List, length, Option, None, Some, IfSome, subst, refl, sym, ap, ◌∙◌}
+use Rattle.std.proofs.Common.{◌≡◌, ℕ, List, Option, None, Some, subst, refl, sym}
 use Rattle.std.specs.Option.{option_and_then}
 use Rattle.colour_tables.specs.Laws.{AreRead, IsRead}
 use Rattle.colour_tables.specs.ListedGlyphs.{said_of}
-use Rattle.colour_tables.specs.MadePaints.{paint_table}
-use Rattle.colour_tables.specs.PaintLists.{Colour, box_at, clip_place, clips_of, colour_at, colours_have_room}
+use Rattle.colour_tables.specs.PaintLists.{Colour, box_at, clip_place, clips_of, colour_at}
 use Rattle.colour_tables.specs.PaintLists.{no_colour}
 use Rattle.colour_tables.specs.PaintLists.{paint_at, roots_of, tree_in}
 use Rattle.colour_tables.specs.Paints.{Tree}
-use Rattle.colour_tables.specs.Stores.{Store}
 use Rattle.colour_tables.specs.declared.shape.Kind.{Kind}
 use Rattle.colour_tables.specs.declared.shape.Kind.TheVariants.{ClipBox, Paint}
 use Rattle.colour_writers.specs.Picked.{by_side, picked_colour}

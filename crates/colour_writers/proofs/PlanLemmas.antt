@@ -1,10 +1,8 @@
 -- A plan of a table of version 1.
-use Rattle.std.proofs.Common.{◌≡◌, ℕ, zero, suc, ◌+◌, ◌*◌, ◌<◌, ◌≤◌, true, List, [], ◌∷◌, ◌++◌, length, Option, None}
-use Rattle.std.proofs.Common.{Some}
-use Rattle.std.proofs.Common.{refl, sym, ap, ◌∙◌, arith, append_assoc, leb}
+use Rattle.std.proofs.Common.{◌≡◌, ℕ, zero, suc, ◌+◌, ◌*◌, ◌<◌, ◌≤◌, true, List, [], ◌∷◌, length, Option}
+use Rattle.std.proofs.Common.{refl, ◌∙◌, arith, leb}
 use Rattle.std.specs.Option.{option_map_or}
 use Rattle.std.proofs.lemmas.Bool.{and_parts, leb-true}
-use Rattle.colour_tables.specs.Laws.{AreRead}
 use Rattle.colour_tables.specs.LayerLists.{MAX_LAYERS, are_layers, depth, layers_have_room}
 use Rattle.colour_tables.specs.ListedGlyphs.{each_below, listed, sum_below}
 use Rattle.colour_tables.specs.MadeLayers.{layer_total}
@@ -17,7 +15,6 @@ use Rattle.colour_tables.proofs.PaintListLemmas.{some-size}
 use Rattle.colour_tables.proofs.TreeByteLemmas.{forest_of-size, layers-least}
 use Rattle.colour_writers.specs.Inside.{ArePlaces}
 use Rattle.colour_writers.specs.Plans.{IsPlanOf, boxes_of, layers_of, paints_of}
-use Rattle.colour_writers.specs.declared.places.Places.{Places}
 use Rattle.colour_writers.specs.declared.plans.Plan.{Plan}
 
 -- sums

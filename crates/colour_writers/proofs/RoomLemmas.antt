@@ -1,6 +1,6 @@
 -- Whether what is written has room.
-use Rattle.std.proofs.Common.{◌≡◌, ℕ, ◌+◌, ◌<◌, ◌≤◌, true, false, Bool, leb, ◌&&◌, subst, refl, sym, ap, ◌∙◌, arith}
-use Rattle.std.proofs.lemmas.Bool.{and_parts, both_ways, false_from_ne_true, le-leb, leb-true}
+use Rattle.std.proofs.Common.{◌≡◌, ℕ, ◌+◌, ◌<◌, ◌≤◌, true, false, Bool, leb, ◌&&◌, subst, sym, ◌∙◌, arith}
+use Rattle.std.proofs.lemmas.Bool.{and_parts, false_from_ne_true, le-leb, leb-true}
 use Rattle.colour_tables.specs.LayerLists.{layers_have_room}
 use Rattle.colour_tables.specs.ListedGlyphs.{sum_below}
 use Rattle.colour_tables.specs.PaintLists.{Colour, MAX_BYTES, colour_size, colours_have_room}

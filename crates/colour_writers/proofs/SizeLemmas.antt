@@ -1,14 +1,13 @@
 -- How many bytes a table of version 1 has that is written.
-use Rattle.std.proofs.Common.{◌≡◌, ℕ, ◌+◌, ◌*◌, ◌≤◌, List, ◌++◌, length, length-append, replicate, sym, ap, ◌∙◌, arith}
+use Rattle.std.proofs.Common.{◌≡◌, ℕ, ◌+◌, ◌≤◌, List, ◌++◌, length, length-append, replicate, ap, ◌∙◌, arith}
 use Rattle.colour_tables.specs.Laws.{AreRead}
-use Rattle.colour_tables.specs.MadeLayers.{base_rows, layer_header, layer_lists, layer_rows, layer_total}
+use Rattle.colour_tables.specs.MadeLayers.{base_rows, layer_header, layer_lists, layer_rows}
 use Rattle.colour_tables.specs.MadePaints.{base_list, base_place, boxes_place, clip_list, clips_place, forest_bytes}
 use Rattle.colour_tables.specs.MadePaints.{forest_layers, forest_of, forest_places, layer_list, layers_place, list_size}
 use Rattle.colour_tables.specs.MadePaints.{map_place, paint_header, paint_lists, paint_table, paints_place, rooted}
 use Rattle.colour_tables.specs.PaintLists.{Colour, forest_size}
 use Rattle.colour_tables.specs.Paints.{MAX_DEPTH, Tree}
 use Rattle.colour_tables.specs.Stores.{Store}
-use Rattle.colour_tables.specs.declared.layer.Layer.{Layer}
 use Rattle.colour_tables.specs.declared.shape.Kind.{Kind}
 use Rattle.colour_tables.specs.declared.shape.Kind.TheVariants.{ClipBox, Paint}
 use Rattle.colour_tables.proofs.ForestLemmas.{bytes-long, places-long}

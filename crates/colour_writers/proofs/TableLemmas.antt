@@ -1,15 +1,14 @@
 -- A table of version 1 that is written, piece by piece.
-use Rattle.std.proofs.Common.{◌≡◌, ℕ, zero, suc, ◌+◌, ◌*◌, ◌<◌, ◌≤◌, true, List, [], ◌∷◌, ◌++◌, length, refl, sym, ap}
+use Rattle.std.proofs.Common.{◌≡◌, ℕ, ◌+◌, ◌*◌, ◌<◌, ◌≤◌, List, [], ◌∷◌, ◌++◌, length, sym, ap}
 use Rattle.std.proofs.Common.{◌∙◌, arith}
-use Rattle.std.proofs.Common.{append_assoc}
 use Rattle.colour_tables.specs.Laws.{AreRead}
-use Rattle.colour_tables.specs.MadeLayers.{base_rows, bytes_of_u32, layer_header, layer_rows, layer_total, offset_of}
+use Rattle.colour_tables.specs.MadeLayers.{base_rows, bytes_of_u32, layer_header, layer_rows, offset_of}
 use Rattle.colour_tables.specs.MadePaints.{base_list, clip_list, forest_bytes, forest_layers, forest_of, forest_places}
 use Rattle.colour_tables.specs.MadePaints.{layer_list, list_size, paint_header, paint_lists, paint_table, rooted}
 use Rattle.colour_tables.specs.PaintLists.{Colour, forest_size}
 use Rattle.colour_tables.specs.Paints.{MAX_DEPTH, Tree}
 use Rattle.colour_tables.specs.Stores.{Store}
-use Rattle.colour_tables.specs.declared.shape.Kind.TheVariants.{ClipBox, Paint}
+use Rattle.colour_tables.specs.declared.shape.Kind.TheVariants.{ClipBox}
 use Rattle.colour_tables.proofs.ByteLemmas.{listed-count}
 use Rattle.colour_tables.proofs.FormedLemmas.{AreFormed, box-size}
 use Rattle.colour_tables.proofs.PaintTableLemmas.{listed-formed}

@@ -1,5 +1,5 @@
 -- What is written of trees, one tree at a time.
-use Rattle.std.proofs.Common.{◌≡◌, ℕ, ◌+◌, ◌-◌, ◌<◌, ◌≤◌, List, [], ◌∷◌, ◌++◌, refl, sym, ap, ◌∙◌, arith, append_assoc}
+use Rattle.std.proofs.Common.{◌≡◌, ℕ, ◌+◌, ◌-◌, ◌≤◌, List, [], ◌∷◌, ◌++◌, refl, sym, ap, ◌∙◌, arith, append_assoc}
 use Rattle.std.proofs.lemmas.List.{append-nil}
 use Rattle.colour_tables.specs.MadeLayers.{bytes_of_u32}
 use Rattle.colour_tables.specs.MadePaints.{first_size, forest_bytes, forest_count, forest_layers, forest_places}

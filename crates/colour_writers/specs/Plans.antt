@@ -1,5 +1,5 @@
 -- What stands where in a table of version 1: words of private contracts and of proofs.
-use Rattle.std.specs.Prelude.{◌≡◌, ℕ, ◌+◌, ◌<◌, ◌≤◌, ◌++◌, List, length}
+use Rattle.std.specs.Prelude.{◌≡◌, ℕ, ◌<◌, ◌≤◌, ◌++◌, List, length}
 use Rattle.colour_tables.specs.ListedGlyphs.{listed}
 use Rattle.colour_tables.specs.MadeLayers.{layer_header, layer_lists, layer_total}
 use Rattle.colour_tables.specs.MadePaints.{base_place, boxes_place, clips_place, forest_layers, forest_of, layers_place}

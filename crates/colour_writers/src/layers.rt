@@ -56,7 +56,8 @@ pub(crate) fn push_layer_rows<P: Layered, A: Memory>(
     picked: &P,
     n: u16,
 ) -> Result<(), NoMemory>
-    ensures made { OnOk result (made.new.items ≡ made.old.items ++ layer_rows (listed (P.said picked.now) 0 n)) }
+    ensures made { OnOk result
+        (made.new.items ≡ made.old.items ++ layer_rows (listed (P.said picked.now) 0 n)) }
     ensures memory { OnErr result (IsRefused A.refuses) }
 {
     for g in 0..n {
@@ -74,7 +75,8 @@ fn push_base<A: Memory>(
 ) -> Result<u16, NoMemory>
     requires { first + depth layers < 2 ^ 16 }
     ensures made { IfOk result (λ next. (rest : List (ℕ × List AnyLayer)) →
-        made.new.items ++ base_rows next rest ≡ made.old.items ++ base_rows first (with_glyph g layers.entry rest)) }
+        made.new.items ++ base_rows next rest
+        ≡ made.old.items ++ base_rows first (with_glyph g layers.entry rest)) }
     ensures next { IfOk result (λ next. next ≡ first + depth layers.entry) }
     ensures memory { OnErr result (IsRefused A.refuses) }
 {
@@ -97,7 +99,8 @@ pub(crate) fn push_base_rows<P: Layered, A: Memory>(
     n: u16,
 ) -> Result<(), NoMemory>
     requires { layer_total (listed (P.said picked.now) 0 n) < 2 ^ 16 }
-    ensures made { OnOk result (made.new.items ≡ made.old.items ++ base_rows 0 (listed (P.said picked.now) 0 n)) }
+    ensures made { OnOk result
+        (made.new.items ≡ made.old.items ++ base_rows 0 (listed (P.said picked.now) 0 n)) }
     ensures memory { OnErr result (IsRefused A.refuses) }
 {
     let mut first = 0;

@@ -13,9 +13,9 @@ mod places;
 mod plans;
 mod rooms;
 mod sides;
+mod writers;
 #[cfg(test)]
 mod written_tests;
-mod writers;
 
 pub use crate::sides::{Side, Sides};
 pub use crate::writers::{layers_fit, paints_fit, write_layers, write_paints};

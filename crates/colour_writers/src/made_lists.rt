@@ -192,7 +192,8 @@ fn push_all_places<P: Planted, A: Memory>(
     requires place { list ≤ at }
     requires room { at < 2 ^ 31 }
     ensures made { OnOk result (made.new.items
-        ≡ made.old.items ++ place_rows list (forest_places at (forest_of (listed (P.trees picked.now) 0 n)))) }
+        ≡ made.old.items
+        ++ place_rows list (forest_places at (forest_of (listed (P.trees picked.now) 0 n)))) }
     ensures memory { OnErr result (IsRefused A.refuses) }
 {
     let mut place = at;
@@ -278,7 +279,8 @@ pub(crate) fn push_layer_list<P: Planted, A: Memory>(
     requires place { list ≤ at }
     requires room { at < 2 ^ 31 }
     ensures made { OnOk result (made.new.items
-        ≡ made.old.items ++ layer_list list (forest_places at (forest_of (listed (P.trees picked.now) 0 n)))) }
+        ≡ made.old.items
+        ++ layer_list list (forest_places at (forest_of (listed (P.trees picked.now) 0 n)))) }
     ensures memory { OnErr result (IsRefused A.refuses) }
 {
     if count == 0 {

@@ -27,7 +27,8 @@ fn push_paint_header<A: Memory>(
 ) -> Result<(), NoMemory>
     requires { plan.at.map + length varies.now.index_map.now < 2 ^ 32 }
     ensures made { OnOk result (made.new.items ≡ made.old.items ++ paint_header_of plan.paints.glyphs
-        plan.paints.layers plan.boxes.glyphs (length varies.now.index_map.now) (length varies.now.store.now) plan.at) }
+        plan.paints.layers plan.boxes.glyphs (length varies.now.index_map.now)
+        (length varies.now.store.now) plan.at) }
     ensures memory { OnErr result (IsRefused A.refuses) }
 {
     let at = plan.at;
@@ -73,8 +74,9 @@ fn push_lists<C: Coloured, A: Memory>(
 ) -> Result<(), NoMemory>
     requires plan { IsPlanOf n (C.colours colours.now) plan }
     requires read { AreRead n (C.colours colours.now) }
-    ensures made { OnOk result (made.new.items ≡ made.old.items ++ paint_lists (layers_of n (C.colours colours.now))
-        (paints_of n (C.colours colours.now)) (boxes_of n (C.colours colours.now)) (store_by varies.now)) }
+    ensures made { OnOk result (made.new.items ≡ made.old.items
+        ++ paint_lists (layers_of n (C.colours colours.now)) (paints_of n (C.colours colours.now))
+        (boxes_of n (C.colours colours.now)) (store_by varies.now)) }
     ensures memory { OnErr result (IsRefused A.refuses) }
 {
     let paints = PaintsOf { colours };
@@ -104,7 +106,8 @@ pub(crate) fn write_table<C: Coloured, A: Memory>(
     requires room { colours_have_room n (C.colours colours.now) ≡ true }
     requires read { AreRead n (C.colours colours.now) }
     requires map { length varies.now.index_map.now < 2 ^ 31 }
-    ensures table { IfOk result (λ bytes. bytes.items ≡ paint_table n (store_by varies.now) (C.colours colours.now)) }
+    ensures table { IfOk result
+        (λ bytes. bytes.items ≡ paint_table n (store_by varies.now) (C.colours colours.now)) }
     ensures small { IfOk result (λ bytes. length bytes.items ≤ 100000000
         + length varies.now.index_map.now + length varies.now.store.now) }
     ensures memory { OnErr result (IsRefused A.refuses) }

@@ -97,7 +97,8 @@ pub(crate) fn push_tree<A: Memory>(
 ) -> Result<u32, NoMemory>
     requires size { tree_size (tree_of tree.now) < 2 ^ 24 }
     requires layers { index + tree_layers (tree_of tree.now) < 2 ^ 32 }
-    ensures made { IfOk result (λ next. made.new.items ≡ made.old.items ++ tree_bytes index (tree_of tree.now)) }
+    ensures made { IfOk result
+        (λ next. made.new.items ≡ made.old.items ++ tree_bytes index (tree_of tree.now)) }
     ensures next { IfOk result (λ next. next ≡ index + tree_layers (tree_of tree.now)) }
     ensures memory { OnErr result (IsRefused A.refuses) }
 {

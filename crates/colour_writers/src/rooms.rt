@@ -18,7 +18,8 @@ const LAYER: u64 = 4;
 
 // Returns how many bytes are left of so many after those of layers, none where there are too few.
 fn layers_left(layers: Option<GlyphLayers<'_>>, room: u64) -> Option<u64>
-    ensures { MatchOption result (room < 4 * depth layers.entry) (λ left. left + 4 * depth layers.entry ≡ room) }
+    ensures { MatchOption result (room < 4 * depth layers.entry)
+        (λ left. left + 4 * depth layers.entry ≡ room) }
 {
     match layers {
         Some(layers) => room.checked_sub(LAYER * u64::from(layers.count())),

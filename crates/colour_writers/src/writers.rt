@@ -61,7 +61,8 @@ pub fn paints_fit<'t, S: Sides>(one: &PaintTable<'t>, other: &PaintTable<'t>, si
 
 /// Returns the table of version 1 of what two tables say, each of the glyphs of its side, and of what varies.
 ///
-/// It asks for memory once, for the whole table. The bytes of a map that an offset leads over are no more than 2^31.
+/// It asks for memory once, for the whole table. The map of what varies stands before the store, so it is no longer than
+/// an offset reaches.
 ///
 /// # Errors
 ///

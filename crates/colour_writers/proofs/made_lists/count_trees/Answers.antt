@@ -1,10 +1,10 @@
-use Rattle.std.proofs.Common.{◌≡◌, arith}
+use Rattle.std.proofs.Common.{arith}
 use Rattle.colour_tables.specs.ListedGlyphs.{listed}
 use Rattle.colour_tables.specs.MadePaints.{forest_of}
 use Rattle.colour_tables.proofs.ByteLemmas.{listed-count}
 use Rattle.colour_tables.proofs.TreeByteLemmas.{layers-least}
 use Rattle.colour_writers.proofs.ListLemmas.{count_step}
-use Rattle.colour_writers.proofs.TreeListLemmas.{layers_step, left_less, size_step}
+use Rattle.colour_writers.proofs.TreeListLemmas.{layers_step, size_step}
 use Rattle.colour_writers.proofs.made_lists.count_trees.Goals as goal
 
 pub loop-g-preserved : goal.loop-g-preserved

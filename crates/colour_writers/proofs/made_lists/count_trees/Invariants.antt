@@ -1,7 +1,6 @@
-use Rattle.std.proofs.Common.{◌≡◌, ◌+◌, ◌-◌, ◌≤◌, ◌++◌, length}
+use Rattle.std.proofs.Common.{◌≡◌, ◌+◌, ◌-◌, length}
 use Rattle.colour_tables.specs.ListedGlyphs.{listed}
-use Rattle.colour_tables.specs.MadePaints.{clip_rows, forest_bytes, forest_layers, forest_of, forest_places, place_rows}
-use Rattle.colour_tables.specs.MadePaints.{root_rows, rooted}
+use Rattle.colour_tables.specs.MadePaints.{forest_layers, forest_of}
 use Rattle.colour_tables.specs.PaintLists.{forest_size}
 use Rattle.colour_writers.proofs.made_lists.count_trees.Given as goal
 

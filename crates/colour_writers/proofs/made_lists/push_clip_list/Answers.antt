@@ -1,6 +1,5 @@
 use Rattle.std.proofs.Common.{arith}
 use Rattle.colour_tables.specs.ListedGlyphs.{listed}
-use Rattle.colour_tables.specs.MadePaints.{forest_of}
 use Rattle.colour_writers.proofs.TreeListLemmas.{clips_none, clips_some}
 use Rattle.colour_writers.proofs.made_lists.push_clip_list.Goals as goal
 

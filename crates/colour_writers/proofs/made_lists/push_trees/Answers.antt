@@ -1,8 +1,7 @@
-use Rattle.std.proofs.Common.{◌≡◌, ℕ, ◌∙◌, ◌++◌, ◌+◌, ◌-◌, List, arith, sym}
+use Rattle.std.proofs.Common.{ℕ, ◌∙◌, ◌++◌, ◌+◌, ◌-◌, List, arith, sym}
 use Rattle.std.proofs.lemmas.List.{append-nil}
 use Rattle.colour_tables.specs.ListedGlyphs.{listed}
-use Rattle.colour_tables.specs.MadePaints.{clip_rows, forest_bytes, forest_of, forest_places, place_rows, root_rows}
-use Rattle.colour_tables.specs.MadePaints.{rooted}
+use Rattle.colour_tables.specs.MadePaints.{forest_bytes, forest_of}
 use Rattle.colour_tables.specs.Paints.{Tree}
 use Rattle.colour_tables.proofs.TreeByteLemmas.{layers-least}
 use Rattle.colour_writers.proofs.ListLemmas.{list_ends, list_step}

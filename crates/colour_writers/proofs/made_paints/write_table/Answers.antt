@@ -1,4 +1,3 @@
-use Rattle.std.proofs.Common.{arith}
 use Rattle.colour_readers.specs.Varying.{store_by}
 use Rattle.colour_writers.proofs.SizeLemmas.{table_small}
 use Rattle.colour_writers.proofs.TableLemmas.{table_put}

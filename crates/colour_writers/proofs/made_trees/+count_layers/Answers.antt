@@ -1,4 +1,4 @@
-use Rattle.std.proofs.Common.{◌∙◌, ap, arith, sym}
+use Rattle.std.proofs.Common.{ap, arith}
 use Rattle.colour_tables.specs.MadePaints.{forest_layers}
 use Rattle.colour_readers.specs.Subtrees.{tree_of}
 use Rattle.colour_readers.proofs.SubtreeLemmas.{trees_end}

@@ -1,8 +1,7 @@
 use Rattle.std.proofs.Common.{◌≡◌, ◌+◌, ◌≤◌, ◌++◌}
-use Rattle.colour_tables.specs.MadePaints.{forest_bytes, forest_layers, forest_places, place_rows, starts}
-use Rattle.colour_tables.specs.PaintLists.{forest_size, tree_size}
+use Rattle.colour_tables.specs.MadePaints.{place_rows, starts}
+use Rattle.colour_tables.specs.PaintLists.{forest_size}
 use Rattle.colour_readers.specs.Subtrees.{tree_of, trees_after}
-use Rattle.colour_writers.specs.Inside.{tree_bytes, tree_layers, tree_places}
 use Rattle.colour_writers.proofs.made_trees.push_starts.Given as goal
 
 abbrev pub invariant-loop-i : goal.invariant-loop-i

@@ -3,7 +3,7 @@ use Rattle.colour_tables.specs.MadePaints.{forest_of}
 use Rattle.colour_tables.proofs.ByteLemmas.{listed-count}
 use Rattle.colour_tables.proofs.TreeByteLemmas.{layers-least}
 use Rattle.colour_writers.proofs.PlanLemmas.{has_room, plan_is}
-use Rattle.colour_writers.specs.Plans.{boxes_of, layers_of, paints_of}
+use Rattle.colour_writers.specs.Plans.{paints_of}
 use Rattle.colour_writers.proofs.plans.plan_of.Goals as goal
 
 pub count_layers-layers-requires : goal.count_layers-layers-requires
