@@ -6,9 +6,10 @@ pub mod CutLemmas
 pub mod FollowedLemmas
 pub mod FontLemmas
 pub mod FormLemmas
+pub mod FurtherTableLemmas
 pub mod GlyphListLemmas
 pub mod KindSourceLemmas
-pub mod FurtherTableLemmas
+pub mod ListedCutLemmas
 pub mod PresenceLemmas
 pub mod SeedLemmas
 pub mod SourceLemmas

@@ -2,6 +2,7 @@
 use Rattle.std.proofs.Common.{◌≡◌, ℕ, ◌<◌, ◌≤◌, Bool, true, false, cond, nat_lt, ◌&&◌, ◌||◌, ◌⊎◌, inl, inr, List, []}
 use Rattle.std.proofs.Common.{◌∷◌, length, refl, sym, ◌∙◌, ap, subst, arith, unwrap_or, Some, None}
 use Rattle.std.specs.Bool.{Decides}
+use Rattle.std.specs.List.{Contains}
 use Rattle.std.proofs.Math.Bool.{and_comm}
 use Rattle.std.proofs.Math.Path.{fun_ext}
 use Rattle.codes.proofs.MapLemmas.{restricted-restricted}
@@ -408,3 +409,26 @@ module _ (s : Settings) (is : AreSettings s) (X : List ℕ) (accepted : fault_by
   closed-on_cut W =
       (λ i. (closed (links (unwrap_or (same_gsub i) [])) (same_map i) W).glyphs)
       ∙ closed-on (links (table_in_slot (tables_by s X) GSUB)) (map_of X) V.codes W
+
+-- closures under more links have no less, and what is wanted in one has, under fewer links, no more
+module _ (few many : ℕ → List ℕ) (leads : (s g : ℕ) → Contains (few s) g → Contains (many s) g) (m : ℕ → ℕ) where
+  linked-more : (V W : Wanted) → ((g : ℕ) → is_start m V g ≡ true → Linked many (is_start m W) NUMBERS g) → (g : ℕ)
+      → Linked few (is_start m V) NUMBERS g → Linked many (is_start m W) NUMBERS g
+  linked-more V W from g (start h) = from g h
+  linked-more V W from g (link {s = s} r low c) = link (linked-more V W from s r) low (leads s g c)
+
+  pub closed-more : (W : Wanted) (g : ℕ) → (closed few m W).glyphs g ≡ true → (closed many m W).glyphs g ≡ true
+  closed-more W g h =
+      (closed-decides many m W g).1 (linked-more W W (λ x e. start e) g ((closed-decides few m W g).0 h))
+
+  pub closed-within : (V W : Wanted) → V.codes ≡ W.codes
+      → ((g : ℕ) → V.glyphs g ≡ true → (closed many m W).glyphs g ≡ true) → (g : ℕ)
+      → (closed few m V).glyphs g ≡ true → (closed many m W).glyphs g ≡ true
+  closed-within V W codes within g h =
+      (closed-decides many m W g).1 (linked-more V W from g ((closed-decides few m V g).0 h))
+    where
+      from : (x : ℕ) → is_start m V x ≡ true → Linked many (is_start m W) NUMBERS x
+      from x e = elim (is_start-cases few m V x e) [
+        | inl s ↦ start (is_start-seed many m W x (ap (λ (c : ℕ → Bool). is_seed (restricted c m) x) (sym codes) ∙ s))
+        | inr k ↦ (closed-decides many m W x).0 (within x k)
+      ]
