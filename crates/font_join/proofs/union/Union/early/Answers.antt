@@ -19,7 +19,7 @@ pub returns-then-not-divides_tables-clause-difference : goal.returns-then-not-di
 returns-then-not-divides_tables-clause-difference g c = λ K h.
     let u : Held = c.args.self.now in
     let none : divides_tables u.kind ≡ false =
-    is_divided _ u c.self.view_is c.kind.result false c.kind.ensures.kind c.if-not-divides_tables.ensures in
+    is_divided _ u c.self.view_is c.kind-kind.result false c.kind-kind.ensures.kind c.if-not-divides_tables.ensures in
     c.early_difference.ensures
     ∙ ap (λ (k : Kind). early_difference (content_in u) (content (font_of k c.args.file.now.1) everything))
     c.requires.same
@@ -30,9 +30,9 @@ pub returns-clause-difference : goal.returns-clause-difference
 returns-clause-difference g c = λ K h.
     let u : Held = c.args.self.now in
     let some : divides_tables u.kind ≡ true =
-    is_divided _ u c.self.view_is c.kind.result true c.kind.ensures.kind c.if-not-divides_tables.ensures in
-    let varies : c.varies.result ≡ keeps_varying u.kind =
-    c.varies.ensures ∙ ap keeps_varying (c.kind.ensures.kind ∙ ap (λ (v : Held). v.kind) c.self.view_is) in
+    is_divided _ u c.self.view_is c.kind-kind.result true c.kind-kind.ensures.kind c.if-not-divides_tables.ensures in
+    let varies : c.keeps_varying-varies.result ≡ keeps_varying u.kind =
+    c.keeps_varying-varies.ensures ∙ ap keeps_varying (c.kind-kind.ensures.kind ∙ ap (λ (v : Held). v.kind) c.self.view_is) in
     c.early_difference-2.ensures
     ∙ (λ i. early_difference
     (framed ((c.new-first.ensures.varies ∙ varies) i) (content_in (c.new-first.ensures.source i)))

@@ -14,7 +14,7 @@ pub returns-then-not-divides_tables-clause-told : goal.returns-then-not-divides_
 returns-then-not-divides_tables-clause-told g c = λ K spells alike.
     let v : Held = c.args.self.now in
     let none : divides_tables v.kind ≡ false =
-    is_divided _ v c.self.view_is c.kind.result false c.kind.ensures.kind c.if-not-divides_tables.ensures in
+    is_divided _ v c.self.view_is c.kind-kind.result false c.kind-kind.ensures.kind c.if-not-divides_tables.ensures in
     misfit_none v.kind none (both K (content_of_all (format_of v.kind) c.args.file.now.1))
 
 pub misfit-requires-clause-count : goal.misfit-requires-clause-count
@@ -31,9 +31,9 @@ returns-clause-told g c = λ K spells alike.
     let v : Held = c.args.self.now in
     let y : List ℕ = c.args.file.now.1 in
     let some : divides_tables v.kind ≡ true =
-    is_divided _ v c.self.view_is c.kind.result true c.kind.ensures.kind c.if-not-divides_tables.ensures in
+    is_divided _ v c.self.view_is c.kind-kind.result true c.kind-kind.ensures.kind c.if-not-divides_tables.ensures in
     let varies : c.keeps_varying.result ≡ keeps_varying v.kind =
-    c.keeps_varying.ensures ∙ ap keeps_varying (c.kind.ensures.kind ∙ ap (λ (u : Held). u.kind) c.self.view_is) in
+    c.keeps_varying.ensures ∙ ap keeps_varying (c.kind-kind.ensures.kind ∙ ap (λ (u : Held). u.kind) c.self.view_is) in
     misfit_told v.kind some (content_in v) (content (font_of v.kind y) everything) K
     (content_of_all (format_of v.kind) y) spells (spells_file v.kind y c.requires.form) (c.requires.early K spells)
     alike c.misfit.result
