@@ -397,7 +397,8 @@ module _ (k : Kind) (some : divides_tables k ≡ true) (C D K L : Content) (h : 
 
   room_none : (slot : ℕ) → K.copied slot ≡ None → true ≡ has_room slot
   unfolding fits_at
-  room_none slot none = sym (ap (λ o. option_map_or _ o true) none)
+  room_none slot none = sym (ap (λ (o : Option (List ℕ)).
+      option_map_or (λ t. (partition_of k slot).fits (context K.copied) t ((both K L).parts slot)) o true) none)
 
   absent_spelled : (slot : ℕ) → K.copied slot ≡ None → C.copied slot ≡ None
   unfolding wholes

@@ -304,12 +304,12 @@ impl<'f, 'a, A: Memory + Copy> Union<'f, 'a, A> {
             IsAddRefusal (format_of self.now.kind) K file.now.1 error) }
         ensures memory { result ≡ Err JoinNoMemory → IsRefused A.refuses }
     {
+        let varies = keeps_varying(self.first.kind());
         let first = OpenTables::of(alloc, self)?;
         let second = OpenTables::of(alloc, file)?;
         self.tested(alloc, file, &second)?;
         let parts = self.other_parts(file, &first, &second);
         let misfit = self.misfit(file, &first, &second);
-        let varies = keeps_varying(self.first.kind());
         let made = MadeTables::united(alloc, self, file, &first, &second, varies)?;
         Ok((parts, misfit, made))
     }

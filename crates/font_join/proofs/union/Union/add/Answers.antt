@@ -55,16 +55,16 @@ merged-requires-clause-form g c =
     c.in_ok-file.ensures.exact.1 in
     subst (λ (q : Kind). IsCut (format_of q) c.in_ok-file.file.1) (merged-requires-clause-same g c) form
 
-pub returns-in_err-compared-clause-exact : goal.returns-in_err-compared-clause-exact
-returns-in_err-compared-clause-exact g c = λ kind K same h.
-    let error = c.in_err-compared.field-0.0 in
+pub returns-in_err-parts-clause-exact : goal.returns-in_err-parts-clause-exact
+returns-in_err-parts-clause-exact g c = λ kind K same h.
+    let error = c.in_err-parts.field-0.0 in
     let spells : SpellsIn c.args.self.kind (content_in c.args.self) K =
     subst (λ (q : Kind). SpellsIn q (content_in c.args.self) K) (sym same) h in
     let file = c.in_ok-file.ensures.exact.0 ∙ c.in_ok-opened.ensures.exact in
-    passed_on _ _ c.from_residual-in_err-compared.result _ c.from_residual-in_err-compared.ensures.1
+    passed_on _ _ c.from_residual-in_err-parts.result _ c.from_residual-in_err-parts.ensures.1
     (subst (λ (q : Kind). IsAddRefusal (format_of q) K c.args.font.now error) same
     (subst (λ (v : Kind × List ℕ). IsAddRefusal (format_of c.args.self.kind) K v.1 error) file
-    (c.in_err-compared.ensures.exact K spells)))
+    (c.in_err-parts.ensures.exact K spells)))
 
 pub returns-clause-exact : goal.returns-clause-exact
 returns-clause-exact g c = λ kind K same h.
