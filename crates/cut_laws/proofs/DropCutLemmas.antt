@@ -1,6 +1,7 @@
 -- A font without tables that cuts of a kind do not have has the same cuts of the kind.
 use Rattle.std.proofs.Common.{◌≡◌, ◌≢◌, ◌∙◌, ℕ, ◌+◌, ◌<◌, ◌≤◌, ◌⊎◌, inl, inr, Bool, true, false, cond, List, [], ◌∷◌}
-use Rattle.std.proofs.Common.{Some, ap, refl, subst, sym, arith, find, get_or, length, nat_eq, nat_lt, if◌then◌else◌}
+use Rattle.std.proofs.Common.{None, Some, ap, refl, subst, sym, arith, find, get_or, is_some, length, nat_eq, nat_lt}
+use Rattle.std.proofs.Common.{if◌then◌else◌}
 use Rattle.std.specs.Option.{option_map, option_or}
 use Rattle.std.proofs.lemmas.Bool.{agree_below_at, both_ways, cases_eq, lt-ltb, ltb-true, or_right}
 use Rattle.std.proofs.lemmas.Slice.Eq.{bytes_eq-Decides}
@@ -10,7 +11,7 @@ use Rattle.sfnt_bytes.specs.Refusals.{is_duplicate, is_outside}
 use Rattle.sfnt_bytes.specs.Tag.{same_tag}
 use Rattle.sfnt_bytes.specs.declared.directory.DirError.TheVariants.{DuplicateTable, TableOutOfFile}
 use Rattle.sfnt_bytes.specs.declared.tag.Tag.{Tag}
-use Rattle.sfnt_bytes.specs.declared.tag.TheConstants.{ALL_SLOTS}
+use Rattle.sfnt_bytes.specs.declared.tag.TheConstants.{ALL_SLOTS, COLR, CPAL}
 use Rattle.font_file.specs.declared.font_error.FontError.TheVariants.{BadVariations, Directory}
 use Rattle.font_map.specs.Mapping.{mapping_of}
 use Rattle.font_theory.specs.Bytes.{cut_head}
@@ -18,7 +19,7 @@ use Rattle.font_theory.specs.Content.{Font, Wanted, content, is_bad_variations_i
 use Rattle.font_theory.specs.Kinds.Reading.{absent, as_it_is, unvarying}
 use Rattle.font_theory.specs.Kinds.{Reading, fault_by, fault_of, font_of, format_by, format_of, full_settings}
 use Rattle.font_theory.specs.Kinds.{layout_settings, lean_settings, read_by, settings, tables_of, there_by}
-use Rattle.font_theory.specs.Kinds.{sequences_of_file, table_in_file, variable_settings}
+use Rattle.font_theory.specs.Kinds.{palettes_of_file, sequences_of_file, table_in_file, variable_settings}
 use Rattle.font_theory.specs.Parting.{divided}
 use Rattle.font_theory.specs.declared.kinds.Kind.{Kind}
 use Rattle.font_theory.specs.declared.kinds.Kind.TheVariants.{Full, Layout, Lean, Variable}
@@ -60,8 +61,10 @@ reads unvarying = true
 
 -- the slots of the further tables of a kind, in the order in which they are looked for
 abbrev further_slot : Kind → ℕ → ℕ
-further_slot Layout k = 16 + k
-further_slot _ k = if nat_lt k 4 then 16 + k else if nat_eq k 12 then 20 else 17 + k
+further_slot Layout k = if nat_eq k 0 then 16 else if nat_lt k 3 then 20 + k else 14 + k
+further_slot _ k =
+    if nat_eq k 0 then 16 else if nat_lt k 3 then 20 + k else if nat_lt k 6 then 14 + k
+    else if nat_eq k 14 then 20 else 17 + k
 
 -- such a tag is that of a slot that is read
 record IsFurther (kind : Kind) (k : ℕ) : Type 0 where
@@ -74,17 +77,17 @@ unfolding full_settings lean_settings layout_settings variable_settings kept_tag
 are_further Full k low = absurd (omega (arith, low))
 are_further Lean k low = absurd (omega (arith, low))
 are_further Layout k low = record {
-  low = ltb-true _ _ (agree_below_at (λ n. nat_lt (further_slot Layout n) ALL_SLOTS) (λ _. true) 5 k refl low);
-  is_read = agree_below_at (λ n. reads ((settings Layout).reading (further_slot Layout n))) (λ _. true) 5 k refl low;
+  low = ltb-true _ _ (agree_below_at (λ n. nat_lt (further_slot Layout n) ALL_SLOTS) (λ _. true) 7 k refl low);
+  is_read = agree_below_at (λ n. reads ((settings Layout).reading (further_slot Layout n))) (λ _. true) 7 k refl low;
   tag = agree_below_at (λ n. same_tag (slot_tag (further_slot Layout n))
-      (get_or (settings Layout).tags n (record { 0 = [] }))) (λ _. true) 5 k refl low;
+      (get_or (settings Layout).tags n (record { 0 = [] }))) (λ _. true) 7 k refl low;
 }
 are_further Variable k low = record {
-  low = ltb-true _ _ (agree_below_at (λ n. nat_lt (further_slot Variable n) ALL_SLOTS) (λ _. true) 13 k refl low);
-  is_read = agree_below_at (λ n. reads ((settings Variable).reading (further_slot Variable n))) (λ _. true) 13 k refl
+  low = ltb-true _ _ (agree_below_at (λ n. nat_lt (further_slot Variable n) ALL_SLOTS) (λ _. true) 15 k refl low);
+  is_read = agree_below_at (λ n. reads ((settings Variable).reading (further_slot Variable n))) (λ _. true) 15 k refl
       low;
   tag = agree_below_at (λ n. same_tag (slot_tag (further_slot Variable n))
-      (get_or (settings Variable).tags n (record { 0 = [] }))) (λ _. true) 13 k refl low;
+      (get_or (settings Variable).tags n (record { 0 = [] }))) (λ _. true) 15 k refl low;
 }
 
 module _ (kind : Kind) (tags : List Tag) (file : List ℕ) (fits : HasRecords file) (kept : KeptStay tags file)
@@ -100,17 +103,38 @@ module _ (kind : Kind) (tags : List Tag) (file : List ℕ) (fits : HasRecords fi
       (mapping_of (cmap-without tags file fits kept i) (count-without tags file fits kept i))
       (count-without tags file fits kept i)))
 
+  -- a table that is read as it is stays
+  stays-as : (slot : ℕ) → slot < ALL_SLOTS → (settings kind).reading slot ≡ as_it_is
+      → table_of made (slot_tag slot) ≡ table_of file (slot_tag slot)
+  stays-as slot low read =
+      table-without tags file fits (slot_tag slot)
+      (stay slot low (λ none. let same : as_it_is ≡ absent = sym read ∙ none in cc)) (same_tag-blanks slot low)
+
+  -- the palettes are read beside a table of colours, which is read where they are
+  palettes-same : tables_of kind made CPAL ≡ tables_of kind file CPAL
+  unfolding palettes_of_file
+  palettes-same = elim (settings-are kind).colours [
+    | inl none ↦
+        ap (λ r. read_by r CPAL (table_in_file made CPAL)) none.1
+        ∙ sym (ap (λ r. read_by r CPAL (table_in_file file CPAL)) none.1)
+    | inr read ↦ (λ i. read_by ((settings kind).reading CPAL) CPAL
+        (cond (is_some (stays-as COLR (omega arith) read.0 i)) (stays-as CPAL (omega arith) read.1 i) None))
+  ]
+
   table-same : (slot : ℕ) → tables_of kind made slot ≡ tables_of kind file slot
   table-same slot = elim (cases_eq slot SEQUENCES) [
     | inl e ↦ subst (λ (s : ℕ). tables_of kind made s ≡ tables_of kind file s) (sym e) sequences-same
-    | inr other ↦ elim (is_read kind slot other) [
-      | inl none ↦
-          ap (λ r. read_by r slot (table_in_file made slot)) none
-          ∙ sym (ap (λ r. read_by r slot (table_in_file file slot)) none)
-      | inr read ↦
-          ap (read_by ((settings kind).reading slot) slot) (table_in_file-tag made slot other
-          ∙ table-without tags file fits (slot_tag slot) (stay slot read.0 read.1) (same_tag-blanks slot read.0)
-          ∙ sym (table_in_file-tag file slot other))
+    | inr other ↦ elim (cases_eq slot CPAL) [
+      | inl e ↦ subst (λ (s : ℕ). tables_of kind made s ≡ tables_of kind file s) (sym e) palettes-same
+      | inr besides ↦ elim (is_read kind slot other) [
+        | inl none ↦
+            ap (λ r. read_by r slot (table_in_file made slot)) none
+            ∙ sym (ap (λ r. read_by r slot (table_in_file file slot)) none)
+        | inr read ↦
+            ap (read_by ((settings kind).reading slot) slot) (table_in_file-tag made slot other besides
+            ∙ table-without tags file fits (slot_tag slot) (stay slot read.0 read.1) (same_tag-blanks slot read.0)
+            ∙ sym (table_in_file-tag file slot other besides))
+      ]
     ]
   ]
 

@@ -7,7 +7,7 @@ use Rattle.std.proofs.Math.Path.{fun_ext}
 use Rattle.std.proofs.lemmas.Bool.{cases_lt, le-leb, ne_eqb, or_right}
 use Rattle.std.proofs.lemmas.Slice.Eq.{bytes_eq-Decides}
 use Rattle.sfnt_bytes.specs.Lines.{first_of_lines}
-use Rattle.sfnt_bytes.specs.declared.tag.TheConstants.{ALL_SLOTS, HEAD, MAXP}
+use Rattle.sfnt_bytes.specs.declared.tag.TheConstants.{ALL_SLOTS, COLR, GVAR, HEAD, HMTX, MAXP, POST, VMTX}
 use Rattle.font_tables.specs.Fields.{num_glyphs}
 use Rattle.font_theory.specs.Content.{Content, IsWritable, KeepsComponents, glyph_count, is_never_copied}
 use Rattle.font_theory.specs.Content.{table_in_slot}
@@ -18,7 +18,7 @@ use Rattle.font_theory.specs.Kinds.{divides_tables, format_of, partition_of, rea
 use Rattle.font_theory.specs.Kinds.{spelled_by, variable_settings}
 use Rattle.font_theory.specs.Kinds.Reading.{absent}
 use Rattle.font_theory.specs.Parted.{sequences}
-use Rattle.font_theory.specs.Parting.{IsPartition, Partition, Tables, frames, wholes}
+use Rattle.font_theory.specs.Parting.{IsParting, IsPartition, Partition, Tables, frames, is_bad_at, wholes}
 use Rattle.font_theory.specs.SequenceTable.{is_bad_sequences}
 use Rattle.font_theory.specs.declared.Difference.{Difference}
 use Rattle.font_theory.specs.declared.Difference.TheVariants.{AtTable}
@@ -28,47 +28,67 @@ use Rattle.font_theory.specs.declared.kinds.TheConstants.{SEQUENCES}
 use Rattle.font_theory.proofs.ArisesLemmas.{IsClosed-arises}
 use Rattle.font_theory.proofs.DifferenceLemmas.{first_slot-none}
 use Rattle.font_theory.proofs.KindLemmas.{kind_is, settings-are, undivided-kind}
-use Rattle.font_theory.proofs.PartLemmas.{frames-other, frames-wholes, glyph_count-alike, never-divided, wholes-other}
-use Rattle.font_theory.proofs.PartLemmas.{wholes-undivided}
+use Rattle.font_theory.proofs.ColourTableLemmas.{colour_tables_are}
+use Rattle.font_theory.proofs.PartLemmas.{by_any_slot, frames-other, frames-wholes, glyph_count-alike, never-divided}
+use Rattle.font_theory.proofs.PartLemmas.{wholes-other, wholes-undivided}
+use Rattle.font_theory.proofs.PartedLemmas.{IsParting-undivided}
 use Rattle.font_theory.proofs.SequencePartLemmas.{good_none}
 use Rattle.font_theory.proofs.SettingsLemmas.{AreRead-by, IsDivided-by}
-use Rattle.divided_tables.specs.DividedTables.{finest}
+use Rattle.divided_tables.specs.DividedTables.{finest_by, keeps_varying}
 use Rattle.divided_tables.proofs.KindPartLemmas.{frames_as}
+use Rattle.divided_tables.proofs.MadeLemmas.{not_divided, others-by}
 use Rattle.font_join.specs.Inside.{early_difference}
 use Rattle.font_join.specs.KindInside.{SpellsIn, framed}
 
--- there are as many glyphs by frames
-IsPartition-finest : IsPartition finest
-unfolding variable_settings
-IsPartition-finest = (settings-are Variable).partition
+-- tables are divided so, with what varies in colours or without it
+abbrev all_divided : IsPartition (partition_of Variable)
+all_divided = (settings-are Variable).partition
 
-pub count_framed : (c : Tables) → glyph_count (frames finest c) ≡ glyph_count c
-count_framed c = glyph_count-alike c (frames finest c) (frames-other finest IsPartition-finest c)
+colours_divided : (varies : Bool) → IsParting (is_bad_at COLR) (finest_by varies COLR)
+colours_divided true = colour_tables_are.1
+colours_divided false = colour_tables_are.0
+
+IsPartition-finest : (varies : Bool) → IsPartition (finest_by varies)
+unfolding variable_settings
+IsPartition-finest varies = record {
+  law = by_any_slot (λ slot. IsParting (is_bad_at slot) (finest_by varies slot)) (all_divided.law GVAR)
+      (all_divided.law HMTX) (all_divided.law POST) (all_divided.law VMTX) (colours_divided varies)
+      (all_divided.law SEQUENCES)
+      (λ slot d a b c m e. subst (IsParting (is_bad_at slot))
+      (sym (others-by varies slot (not_divided slot d a b c m e))) (IsParting-undivided (is_bad_at slot)));
+  others = others-by varies;
+}
+
+-- there are as many glyphs by frames
+pub count_framed : (varies : Bool) (c : Tables) → glyph_count (frames (finest_by varies) c) ≡ glyph_count c
+count_framed varies c =
+    glyph_count-alike c (frames (finest_by varies) c) (frames-other (finest_by varies) (IsPartition-finest varies) c)
 
 -- a frame has nothing of variation sequences
-good_framed : (c : Tables) (n : ℕ) → is_bad_sequences (table_in_slot (frames finest c) SEQUENCES) n ≡ false
+good_framed : (varies : Bool) (c : Tables) (n : ℕ)
+    → is_bad_sequences (table_in_slot (frames (finest_by varies) c) SEQUENCES) n ≡ false
 unfolding frames sequences
-good_framed c n = go (c SEQUENCES)
+good_framed varies c n = go (c SEQUENCES)
   where
     go : (o : Option (List ℕ)) → is_bad_sequences (unwrap_or (option_map (λ _. []) o) []) n ≡ false
     go None = good_none n
     go (Some t) = good_none n
 
 -- a content without what is of single glyphs in its tables can be written
-pub writable_framed : (K : Content) → IsWritable K → IsWritable (framed K)
-writable_framed K ok = record {
-  mapped_below = λ c. subst (λ (n : ℕ). K.map c < n) (sym (count_framed K.copied)) (ok.mapped_below c);
+pub writable_framed : (varies : Bool) (K : Content) → IsWritable K → IsWritable (framed varies K)
+writable_framed varies K ok = record {
+  mapped_below = λ c. subst (λ (n : ℕ). K.map c < n) (sym (count_framed varies K.copied)) (ok.mapped_below c);
   mapped_codes = ok.mapped_codes;
-  slots = λ slot never. frames-other finest IsPartition-finest K.copied slot (never-divided slot never)
-      ∙ ok.slots slot never;
+  slots = λ slot never. frames-other (finest_by varies) (IsPartition-finest varies) K.copied slot
+      (never-divided slot never) ∙ ok.slots slot never;
   head_form = ok.head_form;
   head_size = ok.head_size;
-  sequences = good_framed K.copied (glyph_count (frames finest K.copied));
-  past = λ g low. ok.past g (subst (λ (n : ℕ). n ≤ g) (count_framed K.copied) low);
+  sequences = good_framed varies K.copied (glyph_count (frames (finest_by varies) K.copied));
+  past = λ g low. ok.past g (subst (λ (n : ℕ). n ≤ g) (count_framed varies K.copied) low);
 }
 
-pub components_framed : (K : Content) → KeepsComponents K → KeepsComponents (framed K)
-components_framed K h = record { notdef = h.notdef; mapped = h.mapped; components = h.components }
+pub components_framed : (varies : Bool) (K : Content) → KeepsComponents K → KeepsComponents (framed varies K)
+components_framed varies K h = record { notdef = h.notdef; mapped = h.mapped; components = h.components }
 
 -- what accepted files come to has the same variation sequences of no glyph
 module _ (R : Format) (law : IsFormat R) where
@@ -110,7 +130,7 @@ module _ (k : Kind) (K : Content) where
     unfolding wholes
     unread_spelled slot e = ap (option_map _) (unread_whole slot e)
 
-    pub framed_spelled : divides_tables k ≡ true → frames finest w ≡ K.copied
+    pub framed_spelled : divides_tables k ≡ true → frames (finest_by (keeps_varying k)) w ≡ K.copied
     framed_spelled some = fun_ext (λ slot. sym (frames_as k some w unread_spelled slot) ∙ own_frames slot)
 
 -- what is read of contents before their outlines
@@ -125,11 +145,11 @@ early_alike K L M N a b c d e f =
 -- what tells two contents apart before their glyphs do: the tables without what is of single glyphs, or all of them
 -- where a kind divides none
 pub early_framed : (k : Kind) → divides_tables k ≡ true → (C D K L : Content) → SpellsIn k C K → SpellsIn k D L
-    → early_difference (framed C) (framed D) ≡ early_difference K L
+    → early_difference (framed (keeps_varying k) C) (framed (keeps_varying k) D) ≡ early_difference K L
 early_framed k some C D K L h g =
-    (λ i. early_difference (framed (h.is i)) (framed (g.is i)))
-    ∙ early_alike (framed (spelled_by k K)) (framed (spelled_by k L)) K L (framed_spelled k K h.arises some) refl
-    refl (framed_spelled k L g.arises some) refl refl
+    (λ i. early_difference (framed (keeps_varying k) (h.is i)) (framed (keeps_varying k) (g.is i)))
+    ∙ early_alike (framed (keeps_varying k) (spelled_by k K)) (framed (keeps_varying k) (spelled_by k L)) K L
+    (framed_spelled k K h.arises some) refl refl (framed_spelled k L g.arises some) refl refl
 
 pub undivided_spelled : (k : Kind) → divides_tables k ≡ false → (K : Content) → (spelled_by k K).copied ≡ K.copied
 undivided_spelled k none K =

@@ -1,12 +1,13 @@
 -- A cut that is merged into a union of cuts of its kind.
-use Rattle.std.proofs.Common.{◌≡◌, ℕ, ◌<◌, ◌≤◌, Bool, true, false, cond, not, List, [], find, length, Option}
-use Rattle.std.proofs.Common.{None, Some, inl, inr, refl, sym, ap, ◌∙◌, subst, arith}
+use Rattle.std.proofs.Common.{◌≡◌, ℕ, ◌<◌, ◌≤◌, ◌⊎◌, Bool, true, false, cond, not, List, [], ◌∷◌, find, length, Option}
+use Rattle.std.proofs.Common.{None, Some, IfSome, inl, inr, refl, sym, ap, ◌∙◌, subst, arith}
 use Rattle.std.proofs.lemmas.Bool.{cases_Bool}
 use Rattle.std.specs.List.{range_with_len}
-use Rattle.std.specs.Option.{option_map}
+use Rattle.std.specs.Option.{option_map, option_map_or}
 use Rattle.std.proofs.Math.Path.{fun_ext}
-use Rattle.sfnt_bytes.specs.Lines.{when}
+use Rattle.sfnt_bytes.specs.Lines.{first_of_lines, when}
 use Rattle.sfnt_bytes.specs.declared.directory.TheConstants.{MAX_FILE}
+use Rattle.sfnt_bytes.specs.declared.tag.TheConstants.{COLR}
 use Rattle.font_tables.specs.Fields.{glyph_count_of}
 use Rattle.codes.specs.CharacterMap.{AreCompatible, united}
 use Rattle.font_glyph.specs.RecordMap.{record_in, union_of}
@@ -15,31 +16,34 @@ use Rattle.font_theory.specs.Content.{read_back, table_in_slot}
 use Rattle.font_theory.proofs.CutLemmas.{IsCut-current}
 use Rattle.font_theory.specs.Cut.{Arises, IsCut, content_of_all}
 use Rattle.font_theory.specs.Cut.Arises.{of_file, of_two}
-use Rattle.font_theory.specs.Difference.{difference}
+use Rattle.font_theory.specs.Difference.{PARTED, difference}
 use Rattle.font_theory.specs.Agreement.{Agree, both}
-use Rattle.font_theory.specs.Parting.{IsPart, IsPartition, Tables, context, fits_at, frames, may_divide}
+use Rattle.font_theory.specs.Parting.{IsPart, IsPartition, Partition, Tables, context, fits_at, frames, may_divide}
+use Rattle.font_theory.specs.Parting.{wholes}
 use Rattle.font_theory.specs.declared.Difference.TheVariants.{AtGlyph}
 use Rattle.font_theory.proofs.ArisesLemmas.{IsClosed-arises}
 use Rattle.font_theory.proofs.ContentLemmas.{nothing_either, parts-path}
 use Rattle.font_theory.proofs.DifferenceLemmas.{Agree-from_none}
 use Rattle.font_subset.proofs.SourceLemmas.{count_as, fine_tables}
-use Rattle.font_theory.proofs.HeldLemmas.{parts-none}
-use Rattle.font_theory.proofs.KindLemmas.{kind_is, misfit-is, sequences_read, settings-are}
+use Rattle.font_theory.proofs.HeldLemmas.{cases_option, parts-none}
+use Rattle.font_theory.proofs.KindLemmas.{kind_is, misfit-is, misfit-kind, settings-are}
 use Rattle.font_theory.proofs.PartLemmas.{context-alike, good-font, wholes-other}
-use Rattle.font_theory.proofs.SettingsLemmas.{HasSequences-by, IsClosed-by, IsDivided-by, there-written}
+use Rattle.font_theory.proofs.SettingsLemmas.{IsClosed-by, IsDivided-by, there-written}
 use Rattle.font_theory.specs.Kinds.{divides_tables, font_of, format_of, partition_of, settings, spelled_by, tables_of}
 use Rattle.font_theory.specs.Kinds.{keeps_sequences, there_by}
-use Rattle.font_theory.specs.Parted.{sequences}
 use Rattle.font_theory.specs.declared.kinds.TheConstants.{SEQUENCES}
 use Rattle.font_theory.specs.declared.kinds.Kind.{Kind}
 use Rattle.font_theory.specs.declared.kinds.Kind.TheVariants.{Full, Layout, Lean, Variable}
 use Rattle.map_union.specs.RunLists.{TwoLists, map_in}
 use Rattle.font_join.specs.Inside.{AreTaken, early_difference}
-use Rattle.divided_tables.specs.DividedTables.{AreFine, AreUnionOf, Made, all_laid, finest, replaced}
-use Rattle.divided_tables.specs.PartedTable.{AreJoinable, IsRoomOf}
-use Rattle.divided_tables.proofs.KindPartLemmas.{fine_font, fits_as, part_at, parts_part, wholes_as}
+use Rattle.divided_tables.specs.DividedTables.{AreFine, AreOpen, AreUnionOf, IsMisfitOf, Made, OpenParts, all_laid}
+use Rattle.divided_tables.specs.DividedTables.{count_in as count_of, finest_by, keeps_varying, replaced}
+use Rattle.divided_tables.specs.PartedTable.{AreJoinable, IsRoomFor, IsRoomOf}
+use Rattle.divided_tables.proofs.KindPartLemmas.{fine_font, fits_as, frames_as, part_at, parts_part, wholes_as}
 use Rattle.divided_tables.proofs.MadeLemmas.{frames_moved, united_by}
-use Rattle.font_join.specs.KindInside.{HasFrames, HoldsIn, IsGrown, IsOwn, IsUnion, SpellsIn, least_of, parts_told}
+use Rattle.divided_tables.proofs.OpenLemmas.{count_open}
+use Rattle.font_join.specs.KindInside.{AreCompared, HasFrames, HoldsIn, IsGrown, IsOwn, IsUnion, SpellsIn, least_of}
+use Rattle.font_join.specs.KindInside.{parts_told}
 use Rattle.font_join.specs.Union.{HasShortTables, Held, content_in, is_other, listed_outline, tables_in}
 use Rattle.font_join.proofs.FrameLemmas.{count_spelled, framed_spelled, same_count, same_sequences, undivided_spelled}
 use Rattle.font_join.proofs.FrameLemmas.{unread_whole}
@@ -93,42 +97,60 @@ module _ (k : Kind) (some : divides_tables k ≡ true) (K L : Content) (first : 
   closed_of : (M : Content) → Arises (format_of k) M → IsClosedContent M
   closed_of M arises = IsClosed-arises (format_of k) (kind_is k).law.is_font M arises
 
+  abbrev how : Partition
+  how = finest_by (keeps_varying k)
+
   whole_of : (M : Content) → Arises (format_of k) M → (slot : ℕ) → (spelled_by k M).copied slot
-      ≡ option_map (λ frame. (finest slot).whole (context M.copied) frame (M.parts slot)) (M.copied slot)
+      ≡ option_map (λ frame. (how slot).whole (context M.copied) frame (M.parts slot)) (M.copied slot)
   whole_of M arises slot = sym (wholes_as k some M.copied (unread_whole k M arises) M.parts slot)
 
   context_of : (M : Content) → context (spelled_by k M).copied ≡ context M.copied
   context_of M = context-alike M.copied (spelled_by k M).copied (wholes-other (partition_of k) is M.copied M.parts)
 
   part_of : (M : Content) → Arises (format_of k) M → (slot g : ℕ) (frame : List ℕ) → M.copied slot ≡ Some frame
-      → g < glyph_count M.copied → IsPart (finest slot) (context M.copied) frame g (M.parts slot g)
+      → g < glyph_count M.copied → IsPart (how slot) (context M.copied) frame g (M.parts slot g)
   part_of M arises slot g frame here low =
       parts_part k some M.copied (unread_whole k M arises) slot g frame (M.parts slot g) here
       (part_at (partition_of k) is M.copied slot g frame (M.parts slot g)
       ((IsDivided-by (settings k) (settings-are k) M arises).parts slot g) here low)
 
   fits_of : (M : Content) → Arises (format_of k) M → (slot : ℕ) (frame : List ℕ) → M.copied slot ≡ Some frame
-      → (finest slot).fits (context M.copied) frame (M.parts slot) ≡ true
+      → (how slot).fits (context M.copied) frame (M.parts slot) ≡ true
   fits_of M arises slot frame here = sym (fits_as k some M.copied (unread_whole k M arises) slot M.parts frame here)
       ∙ (IsDivided-by (settings k) (settings-are k) M arises).fit slot
 
+  -- what is of no glyph is its own frame
+  framed_of : (slot : ℕ) (frame : List ℕ) → K.copied slot ≡ Some frame
+      → (how slot).frame (context K.copied) frame ≡ frame
+  unfolding frames
+  framed_of slot frame here =
+      let same : Some ((how slot).frame (context K.copied) frame) ≡ Some frame =
+      sym (ap (option_map ((how slot).frame (context K.copied))) here)
+      ∙ sym (frames_as k some K.copied (unread_whole k K first) slot)
+      ∙ ap (λ (c : Tables). c slot) (IsDivided-by (settings k) (settings-are k) K first).frames ∙ here in
+      some_is _ _ same
+    where
+      some_is : (a b : List ℕ) → Some a ≡ Some b → a ≡ b
+      some_is a b e = cc
+
   pub joinable : (slot : ℕ)
       → ((g : ℕ) (a b : List ℕ) → K.outline g ≡ Some a → L.outline g ≡ Some b → K.parts slot g ≡ L.parts slot g)
-      → AreJoinable (finest slot) slot (spelled_by k K) (spelled_by k L) K.copied (K.parts slot) (L.parts slot)
+      → AreJoinable (how slot) slot (spelled_by k K) (spelled_by k L) K.copied (K.parts slot) (L.parts slot)
   joinable slot parts = record {
     context_first = context_of K;
     context_second = context_of L ∙ ap context same_copied;
     first = whole_of K first slot;
     second = whole_of L second slot
-        ∙ (λ i. option_map (λ frame. (finest slot).whole (context (same_copied i)) frame (L.parts slot))
+        ∙ (λ i. option_map (λ frame. (how slot).whole (context (same_copied i)) frame (L.parts slot))
         (same_copied i slot));
     frame_good = good-font (read_back K) (closed_of K first).font slot;
+    framed = framed_of slot;
     first_parts = λ frame g here low. part_of K first slot g frame here low;
-    second_parts = λ frame g here low. subst (λ (c : Tables). IsPart (finest slot) (context c) frame g (L.parts slot g))
+    second_parts = λ frame g here low. subst (λ (c : Tables). IsPart (how slot) (context c) frame g (L.parts slot g))
         same_copied (part_of L second slot g frame (ap (λ (c : Tables). c slot) same_copied ∙ here)
         (subst (λ (c : Tables). g < glyph_count c) (sym same_copied) low));
     first_fits = λ frame here. fits_of K first slot frame here;
-    second_fits = λ frame here. subst (λ (c : Tables). (finest slot).fits (context c) frame (L.parts slot) ≡ true)
+    second_fits = λ frame here. subst (λ (c : Tables). (how slot).fits (context c) frame (L.parts slot) ≡ true)
         same_copied (fits_of L second slot frame (ap (λ (c : Tables). c slot) same_copied ∙ here));
     first_kept = λ g none. parts-none K (closed_of K first) g none slot;
     second_kept = λ g none. parts-none L (closed_of L second) g none slot;
@@ -137,7 +159,7 @@ module _ (k : Kind) (some : divides_tables k ≡ true) (K L : Content) (first : 
 
   tables_written : Agree K L → (format_of k).misfit (both K L) ≡ None → (c : Tables) (o made : Made)
       → replaced c o ≡ (spelled_by k K).copied
-      → AreUnionOf (spelled_by k K) (spelled_by k L) made
+      → AreUnionOf (keeps_varying k) (spelled_by k K) (spelled_by k L) made
       → replaced c (all_laid (spelled_by k L).copied o made) ≡ (spelled_by k (both K L)).copied
   tables_written agree fit c o made at union = united_by c o made (spelled_by k K) (spelled_by k L)
       (spelled_by k (both K L)).copied at
@@ -151,7 +173,7 @@ module _ (k : Kind) (some : divides_tables k ≡ true) (K L : Content) (first : 
 tables_both : (k : Kind) (c : Tables) (o made : Made) (C K L : Content) → Arises (format_of k) K
     → Arises (format_of k) L → Agree K L → (format_of k).misfit (both K L) ≡ None → C ≡ spelled_by k K
     → tables_in k c o ≡ C.copied
-    → AreUnionOf C (spelled_by k L) made
+    → (divides_tables k ≡ true → AreUnionOf (keeps_varying k) C (spelled_by k L) made)
     → tables_in k c (all_laid (spelled_by k L).copied o made) ≡ (spelled_by k (both K L)).copied
 tables_both k c o made C K L first second agree fit spells is union =
     let over : Made = all_laid (spelled_by k L).copied o made in
@@ -159,7 +181,7 @@ tables_both k c o made C K L first second agree fit spells is union =
     elim (cases_Bool (divides_tables k)) [
       | inl some ↦ sym (own_tables k c over some)
           ∙ tables_written k some K L first second agree.copied agree fit c o made (own_tables k c o some ∙ at)
-          (subst (λ (M : Content). AreUnionOf M (spelled_by k L) made) spells union)
+          (subst (λ (M : Content). AreUnionOf (keeps_varying k) M (spelled_by k L) made) spells (union some))
       | inr none ↦
           sym (first_tables k c over none) ∙ first_tables k c o none ∙ at
           ∙ undivided_spelled k none K ∙ sym (undivided_spelled k none (both K L))
@@ -199,15 +221,12 @@ agree_tested k C K y h form none = Agree-from_none K (content_of_all (format_of 
     (same_sequences (format_of k) (kind_is k).law K (content_of_all (format_of k) y) h.arises
     (spells_file k y form).arises) none
 
--- a file whose glyphs have been compared with those of a union, which is held as u and known as v
+-- a file that has been compared with a union, which is held as u and known as v
 module _ (u v : Held) (same : u ≡ v) (q : Kind) (kind : q ≡ v.kind) (y : List ℕ) (cut : IsCut (format_of v.kind) y)
-    (early : (M : Content) → SpellsIn v.kind (content_in v) M → early_difference M (content_of_all (format_of v.kind) y)
-    ≡ None)
-    (n : ℕ) (count : n ≡ glyph_count_of u.tables) (other parts : Option ℕ)
+    (parts unfit : Option ℕ) (tables : Made) (compared : AreCompared v y parts unfit tables)
+    (n : ℕ) (count : n ≡ glyph_count_of u.tables) (other : Option ℕ)
     (differs : other ≡ find (is_other (listed_outline u.outlines) (content (font_of q y) everything).outline)
     (range_with_len 0 n))
-    (told : (M : Content) → SpellsIn v.kind (content_in v) M → parts
-    ≡ parts_told M (content_of_all (format_of v.kind) y))
     (K : Content) (spells : SpellsIn u.kind (content_in u) K) where
   pub kind_of : q ≡ u.kind
   kind_of = kind ∙ sym (ap (λ (w : Held). w.kind) same)
@@ -215,18 +234,23 @@ module _ (u v : Held) (same : u ≡ v) (q : Kind) (kind : q ≡ v.kind) (y : Lis
   pub form_of : IsCut (format_of u.kind) y
   form_of = subst (λ (w : Held). IsCut (format_of w.kind) y) (sym same) cut
 
+  pub compared_of : AreCompared u y parts unfit tables
+  compared_of = subst (λ (w : Held). AreCompared w y parts unfit tables) (sym same) compared
+
   pub told_of : difference K (content_of_all (format_of u.kind) y) ≡ option_map AtGlyph (least_of parts other)
   told_of =
       told_merged u.kind (content_in u) (content (font_of u.kind y) everything) K (content_of_all (format_of u.kind) y)
-      spells (spells_file u.kind y form_of)
-      (subst (λ (w : Held). (M : Content) → SpellsIn w.kind (content_in w) M
-      → early_difference M (content_of_all (format_of w.kind) y) ≡ None) (sym same) early K spells)
-      other parts n (count ∙ count_as u.kind u.tables ∙ sym (count_in u.kind (tables_of u.kind u.tables) u.own))
+      spells (spells_file u.kind y form_of) (compared_of.told K spells).early other parts n
+      (count ∙ count_as u.kind u.tables ∙ sym (count_in u.kind (tables_of u.kind u.tables) u.own))
       (subst (λ (k : Kind). other ≡ find (is_other (listed_outline u.outlines) (content (font_of k y)
       everything).outline)
       (range_with_len 0 n)) kind_of differs)
-      (subst (λ (w : Held). (M : Content) → SpellsIn w.kind (content_in w) M
-      → parts ≡ parts_told M (content_of_all (format_of w.kind) y)) (sym same) told K spells)
+      (compared_of.told K spells).told
+
+  -- which table has no room for what both have in it
+  pub misfit_of : least_of parts other ≡ None
+      → unfit ≡ (format_of u.kind).misfit (both K (content_of_all (format_of u.kind) y))
+  misfit_of least = (compared_of.told K spells).unfit (least_parts parts other least)
 
   module _ (least : least_of parts other ≡ None) where
     pub none_of : difference K (content_of_all (format_of u.kind) y) ≡ None
@@ -242,15 +266,32 @@ count_early k C D K L h g early =
     ap (λ (M : Content). glyph_count M.copied) h.is ∙ count_spelled k K ∙ same_count K L early
     ∙ sym (ap (λ (M : Content). glyph_count M.copied) g.is ∙ count_spelled k L)
 
+-- so have a union and a further cut of its kind, and their tables that are open
+pub count_both : (u : Held) (q : Kind) (y : List ℕ) → q ≡ u.kind → IsCut (format_of u.kind) y → (K : Content)
+    → SpellsIn u.kind (content_in u) K → early_difference K (content_of_all (format_of u.kind) y) ≡ None
+    → glyph_count (content_in u).copied ≡ glyph_count (tables_of q y)
+count_both u q y same form K h early =
+    count_early u.kind (content_in u) (content (font_of u.kind y) everything) K (content_of_all (format_of u.kind) y)
+    h (spells_file u.kind y form) early
+    ∙ ap (λ (k : Kind). glyph_count (tables_of k y)) (sym same)
+
+pub count_opened : (u : Held) (q : Kind) (y : List ℕ) → q ≡ u.kind → IsCut (format_of u.kind) y → (K : Content)
+    → SpellsIn u.kind (content_in u) K → early_difference K (content_of_all (format_of u.kind) y) ≡ None
+    → (o p : OpenParts) → AreOpen (content_in u).copied o → AreOpen (tables_of q y) p → count_of o ≡ count_of p
+count_opened u q y same form K h early o p first second =
+    count_open (content_in u).copied o first ∙ count_both u q y same form K h early
+    ∙ sym (count_open (tables_of q y) p second)
+
 -- frames stay
 frames_kept : (k : Kind) (C D K M : Content) (made : Made) → SpellsIn k C K → SpellsIn k D M
     → K.copied ≡ M.copied → HasFrames k C.copied made → HasFrames k D.copied made
 frames_kept k C D K M made h g same are some =
-    let first : frames finest C.copied ≡ K.copied =
-    ap (λ (N : Content). frames finest N.copied) h.is ∙ framed_spelled k K h.arises some in
-    let second : frames finest D.copied ≡ M.copied =
-    ap (λ (N : Content). frames finest N.copied) g.is ∙ framed_spelled k M g.arises some in
-    frames_moved C.copied D.copied made (are some) (first ∙ same ∙ sym second)
+    let how : Partition = finest_by (keeps_varying k) in
+    let first : frames how C.copied ≡ K.copied =
+    ap (λ (N : Content). frames how N.copied) h.is ∙ framed_spelled k K h.arises some in
+    let second : frames how D.copied ≡ M.copied =
+    ap (λ (N : Content). frames how N.copied) g.is ∙ framed_spelled k M g.arises some in
+    frames_moved (keeps_varying k) C.copied D.copied made (are some) (first ∙ same ∙ sym second)
 
 module _ (u : Held) (y : List ℕ) (K : Content) (spells : SpellsIn u.kind (content_in u) K)
     (form : IsCut (format_of u.kind) y) (agree : Agree K (content_of_all (format_of u.kind) y)) where
@@ -289,7 +330,7 @@ module _ (u : Held) (y : List ℕ) (K : Content) (spells : SpellsIn u.kind (cont
   module _ (fit : (format_of u.kind).misfit (both K L) ≡ None) (runs : TwoLists) (outlines : List (Option (List ℕ)))
       (own tables : Made) (maps : map_in runs ≡ united (map_in u.runs) D.map)
       (taken : (g : ℕ) → listed_outline outlines g ≡ union_of (listed_outline u.outlines) D.outline g)
-      (joined : AreUnionOf (content_in u) D tables) (over : own ≡ all_laid D.copied u.own tables) where
+      (joined : divides_tables u.kind ≡ true → AreUnionOf (keeps_varying u.kind) (content_in u) D tables) (over : own ≡ all_laid D.copied u.own tables) where
     abbrev merged : Held
     merged = record { kind = u.kind; tables = u.tables; runs = runs; outlines = outlines; own = own }
 
@@ -298,7 +339,9 @@ module _ (u : Held) (y : List ℕ) (K : Content) (spells : SpellsIn u.kind (cont
         ap (tables_in u.kind (tables_of u.kind u.tables)) over
         ∙ ap (λ (M : Content). tables_in u.kind (tables_of u.kind u.tables) (all_laid M.copied u.own tables)) second.is
         ∙ tables_both u.kind (tables_of u.kind u.tables) u.own tables (content_in u) K L spells.arises second.arises
-        agree fit spells.is refl (subst (λ (M : Content). AreUnionOf (content_in u) M tables) second.is joined)
+        agree fit spells.is refl
+        (λ some. subst (λ (M : Content). AreUnionOf (keeps_varying u.kind) (content_in u) M tables) second.is
+        (joined some))
 
     head_merged : (plain_font u.tables).head ≡ (spelled_by u.kind (both K L)).head
     head_merged = ap (λ (C : Content). C.head) spells.is
@@ -338,87 +381,119 @@ module _ (u : Held) (y : List ℕ) (K : Content) (spells : SpellsIn u.kind (cont
           ok.has_frames;
     }
 
--- whether the parts of two contents have room, where they have the same of each glyph that both keep
-pub room_told : (k : Kind) → keeps_sequences k ≡ true → (C D K L : Content) → SpellsIn k C K → SpellsIn k D L
-    → early_difference K L ≡ None → parts_told K L ≡ None → (room : Bool) → IsRoomOf sequences SEQUENCES C D room
-    → when (not room) SEQUENCES ≡ (format_of k).misfit (both K L)
-room_told k keeps C D K L h l early alike room is =
-    let some : divides_tables k ≡ true = keeps_divides k keeps in
-    let table = HasSequences-by (settings k) (settings-are k) K h.arises (sequences_read k keeps) in
-    let tables = all_tables k K L h.arises l.arises early in
-    let told : IsRoomOf sequences SEQUENCES (spelled_by k K) (spelled_by k L) room =
-    (subst (λ (M : Content). IsRoomOf sequences SEQUENCES M (spelled_by k L) room) h.is
-    (subst (λ (N : Content). IsRoomOf sequences SEQUENCES C N room) l.is is)) in
-    let fits : room ≡ fits_at (partition_of k) (both K L).copied (both K L).parts SEQUENCES =
-    told K.copied (K.parts SEQUENCES) (L.parts SEQUENCES)
-    (joinable k some K L h.arises l.arises tables SEQUENCES (parts_alike k K L h.arises alike SEQUENCES past_tags))
-    table.0 table.1
-    ∙ sym (fits_as k some K.copied (unread_whole k K h.arises) SEQUENCES (both K L).parts table.0 table.1) in
-    ap (λ b. when (not b) SEQUENCES) fits ∙ sym (misfit-is k (both K L))
-  where
-    keeps_divides : (k : Kind) → keeps_sequences k ≡ true → divides_tables k ≡ true
-    keeps_divides Full e = cc
-    keeps_divides Lean e = cc
-    keeps_divides Layout e = refl
-    keeps_divides Variable e = refl
+-- the slot of colours is one of those that may have parts
+colours_parted : COLR < PARTED
+unfolding PARTED
+colours_parted = omega arith
 
--- which table has no room for what both have in it, of a union that is held as u and known as v
-pub misfit_of_union : (u v : Held) → u ≡ v → (y : List ℕ) (unfit parts : Option ℕ)
-    → ((M : Content) → SpellsIn v.kind (content_in v) M → parts ≡ parts_told M (content_of_all (format_of v.kind) y))
-    → ((M : Content) → SpellsIn v.kind (content_in v) M
-    → parts_told M (content_of_all (format_of v.kind) y) ≡ None
-    → unfit ≡ (format_of v.kind).misfit (both M (content_of_all (format_of v.kind) y)))
-    → (K : Content) → SpellsIn u.kind (content_in u) K → parts ≡ None
-    → unfit ≡ (format_of u.kind).misfit (both K (content_of_all (format_of u.kind) y))
-misfit_of_union u v same y unfit parts told tells K spells none =
-    subst (λ (w : Held). (M : Content) → SpellsIn w.kind (content_in w) M
-    → unfit ≡ (format_of w.kind).misfit (both M (content_of_all (format_of w.kind) y))) (sym same)
-    (λ M h. tells M h (sym (told M h) ∙ none)) K spells
+-- whether the parts of two contents have room, where they have the same of each glyph that both keep
+module _ (k : Kind) (some : divides_tables k ≡ true) (C D K L : Content) (h : SpellsIn k C K) (l : SpellsIn k D L)
+    (early : early_difference K L ≡ None) (alike : parts_told K L ≡ None) where
+  abbrev of_kind : Partition
+  of_kind = finest_by (keeps_varying k)
+
+  abbrev has_room : ℕ → Bool
+  has_room slot = fits_at (partition_of k) (both K L).copied (both K L).parts slot
+
+  room_none : (slot : ℕ) → K.copied slot ≡ None → true ≡ has_room slot
+  unfolding fits_at
+  room_none slot none = sym (ap (λ (o : Option (List ℕ)).
+      option_map_or (λ t. (partition_of k slot).fits (context K.copied) t ((both K L).parts slot)) o true) none)
+
+  absent_spelled : (slot : ℕ) → K.copied slot ≡ None → C.copied slot ≡ None
+  unfolding wholes
+  absent_spelled slot none =
+      ap (λ (M : Content). M.copied slot) h.is ∙ ap (option_map _) none
+
+  room_of : (slot : ℕ) → slot < PARTED → (room : Bool) → IsRoomFor (of_kind slot) slot C D room
+      → room ≡ has_room slot
+  room_of slot low room is = go (cases_option (K.copied slot))
+    where
+      written : IsRoomOf (of_kind slot) slot (spelled_by k K) (spelled_by k L) room
+      written = subst (λ (M : Content). IsRoomOf (of_kind slot) slot M (spelled_by k L) room) h.is
+          (subst (λ (N : Content). IsRoomOf (of_kind slot) slot C N room) l.is is.parts)
+
+      go : ((K.copied slot ≡ None) ⊎ ((t : List ℕ) × (K.copied slot ≡ Some t))) → room ≡ has_room slot
+      go (inl none) = is.none (absent_spelled slot none) ∙ room_none slot none
+      go (inr t) =
+          written K.copied (K.parts slot) (L.parts slot)
+          (joinable k some K L h.arises l.arises (all_tables k K L h.arises l.arises early) slot
+          (parts_alike k K L h.arises alike slot low))
+          t.0 t.1
+          ∙ sym (fits_as k some K.copied (unread_whole k K h.arises) slot (both K L).parts t.0 t.1)
+
+  abbrev first_misfit : Bool → Bool → Option ℕ
+  first_misfit colour pairs = first_of_lines (when (not colour) COLR ∷ when (not pairs) SEQUENCES ∷ [])
+
+  pub misfit_told : (unfit : Option ℕ) → IsMisfitOf (keeps_varying k) C D unfit
+      → unfit ≡ (format_of k).misfit (both K L)
+  misfit_told unfit is = go unfit is ∙ sym (misfit-is k (both K L))
+    where
+      go : (unfit : Option ℕ) → IsMisfitOf (keeps_varying k) C D unfit
+          → unfit ≡ first_misfit (has_room COLR) (has_room SEQUENCES)
+      go None are =
+          λ i. first_misfit (room_of COLR colours_parted true are.0 i) (room_of SEQUENCES past_tags true are.1 i)
+      go (Some slot) (inl are) =
+          ap Some are.0
+          ∙ (λ i. first_misfit (room_of COLR colours_parted false are.1 i) (has_room SEQUENCES))
+      go (Some slot) (inr are) =
+          ap Some are.0
+          ∙ (λ i. first_misfit (room_of COLR colours_parted true are.1 i) (room_of SEQUENCES past_tags false are.2 i))
+
+-- the first table that has no room is none past the variation sequences
+pub misfit_low : (varies : Bool) (C D : Content) (unfit : Option ℕ) → IsMisfitOf varies C D unfit
+    → IfSome unfit (λ slot. slot ≤ SEQUENCES)
+misfit_low varies C D None are = tt
+misfit_low varies C D (Some slot) (inl are) = omega (arith, are.0)
+misfit_low varies C D (Some slot) (inr are) = omega (arith, are.0)
+
+-- each table of a kind that divides none has room
+pub misfit_none : (k : Kind) → divides_tables k ≡ false → (K : Content) → None ≡ (format_of k).misfit K
+misfit_none k none K = sym (misfit-kind k (bare k none) K)
+  where
+    bare : (k : Kind) → divides_tables k ≡ false → keeps_sequences k ≡ false
+    bare Full e = refl
+    bare Lean e = cc
+    bare Layout e = cc
+    bare Variable e = cc
 
 -- the union with a file that was taken into it, of which the same is known
 module _ (u v : Held) (same : u ≡ v) (q : Kind) (kind : q ≡ v.kind) (y : List ℕ) (cut : IsCut (format_of v.kind) y)
-    (early : (M : Content) → SpellsIn v.kind (content_in v) M → early_difference M (content_of_all (format_of v.kind) y)
-    ≡ None)
-    (n : ℕ) (count : n ≡ glyph_count_of u.tables) (other parts : Option ℕ)
+    (parts unfit : Option ℕ) (tables : Made) (compared : AreCompared v y parts unfit tables)
+    (n : ℕ) (count : n ≡ glyph_count_of u.tables) (other : Option ℕ)
     (differs : other ≡ find (is_other (listed_outline u.outlines) (content (font_of q y) everything).outline)
     (range_with_len 0 n))
-    (told : (M : Content) → SpellsIn v.kind (content_in v) M → parts
-    ≡ parts_told M (content_of_all (format_of v.kind) y))
-    (least : least_of parts other ≡ None) (unfit : Option ℕ)
-    (tells : (M : Content) → SpellsIn v.kind (content_in v) M
-    → parts_told M (content_of_all (format_of v.kind) y) ≡ None
-    → unfit ≡ (format_of v.kind).misfit (both M (content_of_all (format_of v.kind) y)))
-    (fits : unfit ≡ None) (runs : TwoLists) (outlines : List (Option (List ℕ))) (own : Made)
-    (tables : Made) (of_glyphs : length u.outlines ≡ glyph_count_of u.tables)
+    (late : (least_of parts other ≡ None) × (unfit ≡ None)) (runs : TwoLists) (outlines : List (Option (List ℕ)))
+    (own : Made) (of_glyphs : length u.outlines ≡ glyph_count_of u.tables)
     (taken : other ≡ None → AreTaken u.outlines outlines (content (font_of q y) everything).outline n)
     (maps : map_in runs ≡ united (map_in u.runs) (content (font_of q y) everything).map)
-    (joined : AreUnionOf (content_in v) (content (font_of q y) everything) tables)
-    (over : own ≡ all_laid (tables_of q y) u.own tables) (K : Content) (spells : SpellsIn u.kind (content_in u) K) where
+    (over : own ≡ all_laid (tables_of q y) u.own tables) (K : Content)
+    (spells : SpellsIn u.kind (content_in u) K) where
   abbrev all : Held
   all = record { kind = u.kind; tables = u.tables; runs = runs; outlines = outlines; own = own }
 
   here : q ≡ u.kind
-  here = kind_of u v same q kind y cut early n count other parts differs told K spells
+  here = kind_of u v same q kind y cut parts unfit tables compared n count other differs K spells
 
   cut_here : IsCut (format_of u.kind) y
-  cut_here = form_of u v same q kind y cut early n count other parts differs told K spells
+  cut_here = form_of u v same q kind y cut parts unfit tables compared n count other differs K spells
+
+  compared_here : AreCompared u y parts unfit tables
+  compared_here = compared_of u v same q kind y cut parts unfit tables compared n count other differs K spells
 
   agree : Agree K (content_of_all (format_of u.kind) y)
-  agree = agree_of u v same q kind y cut early n count other parts differs told K spells least
+  agree = agree_of u v same q kind y cut parts unfit tables compared n count other differs K spells late.0
 
   fit : (format_of u.kind).misfit (both K (content_of_all (format_of u.kind) y)) ≡ None
-  fit = sym (misfit_of_union u v same y unfit parts told tells K spells (least_parts parts other least)) ∙ fits
+  fit = sym (misfit_of u v same q kind y cut parts unfit tables compared n count other differs K spells late.0)
+      ∙ late.1
 
   are : AreTaken u.outlines outlines (content (font_of u.kind y) everything).outline n
   are = subst (λ (k : Kind). AreTaken u.outlines outlines (content (font_of k y) everything).outline n) here
-      (taken (least_none parts other least))
+      (taken (least_none parts other late.0))
 
   laid : own ≡ all_laid (tables_of u.kind y) u.own tables
   laid = over ∙ ap (λ (k : Kind). all_laid (tables_of k y) u.own tables) here
-
-  united_here : AreUnionOf (content_in u) (content (font_of u.kind y) everything) tables
-  united_here = subst (λ (k : Kind). AreUnionOf (content_in u) (content (font_of k y) everything) tables) here
-      (subst (λ (w : Held). AreUnionOf (content_in w) (content (font_of q y) everything) tables) (sym same) joined)
 
   all_taken : (g : ℕ) → listed_outline outlines g
       ≡ union_of (listed_outline u.outlines) (content (font_of u.kind y) everything).outline g
@@ -427,15 +502,16 @@ module _ (u v : Held) (same : u ≡ v) (q : Kind) (kind : q ≡ v.kind) (y : Lis
   pub grown_of : IsGrown u.kind y K all
   grown_of = record {
     kind_is = refl;
-    spells = spells_merged u y K spells cut_here agree fit runs outlines own tables maps all_taken united_here laid;
-    none = none_of u v same q kind y cut early n count other parts differs told K spells least;
+    spells = spells_merged u y K spells cut_here agree fit runs outlines own tables maps all_taken
+        compared_here.tables laid;
+    none = none_of u v same q kind y cut parts unfit tables compared n count other differs K spells late.0;
     fit = fit;
   }
 
   pub union_of_all : (made : Made) → IsUnion u made → IsUnion all made
   union_of_all made ok =
-      union_merged u y K spells cut_here agree fit runs outlines own tables maps all_taken united_here laid made ok
-      are.count
+      union_merged u y K spells cut_here agree fit runs outlines own tables maps all_taken compared_here.tables laid
+      made ok are.count
 
 -- a first file
 tables_of_first : (k : Kind) (c : Tables) (o : Made) → IsOwn k c o → tables_in k c o ≡ c

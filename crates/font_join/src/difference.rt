@@ -133,13 +133,13 @@ fn tag_of_table(slot: usize) -> Tag
 }
 
 /// Returns the refusal for a glyph that differs, or else for a table that has no room.
-pub(crate) fn late_refusal(glyph: Option<u16>, misfit: Option<u8>) -> Option<JoinError>
+pub(crate) fn late_refusal(glyph: Option<u16>, misfit: Option<usize>) -> Option<JoinError>
     requires { IfSome misfit (λ slot. slot ≤ SEQUENCE_SLOT) }
     ensures { result ≡ late_fault glyph misfit }
 {
     match (glyph, misfit) {
         (Some(g), _) => Some(JoinError::DifferentGlyph(g)),
-        (None, Some(slot)) => Some(JoinError::TableTooLong(tag_of_table(usize::from(slot)))),
+        (None, Some(slot)) => Some(JoinError::TableTooLong(tag_of_table(slot))),
         (None, None) => None,
     }
 }

@@ -17,8 +17,8 @@ fn has_others<'t, K: Source, L: Source, A: Allocator>(
     second: &OpenTables<'t, A>,
     g: u16,
 ) -> bool
-    requires first { g < count_in first.now }
-    requires second { g < count_in second.now }
+    requires glyph { g < count_in first.now }
+    requires count { count_in first.now ≡ count_in second.now }
     ensures { result ≡ has_others (K.content_of k.now) (L.content_of l.now) first.now second.now g }
 {
     k.keeps(g) && l.keeps(g) && !first.is_same(second, g)

@@ -1,6 +1,6 @@
 //! The union of many cuts of one kind, added one after the other: the bytes of each are read once. This is
 //! this project's own, but for the groups of the mapping. OpenType 1.9, cmap, Format 12: Segmented coverage.
-ghost use Rattle.std.specs.Prelude.{◌≡◌, ◌<◌, ◌≤◌, length, Err, None, Some, IfOk, IfSome, MatchOption, MatchResult, OnErr};
+ghost use Rattle.std.specs.Prelude.{◌≡◌, ◌<◌, ◌≤◌, ℕ, length, Err, None, Some, IfOk, IfSome, MatchOption, MatchResult, OnErr};
 ghost use Rattle.sfnt_bytes.specs.Memory.{IsRefused};
 ghost use Rattle.sfnt_bytes.specs.declared.directory.TheConstants.{MAX_FILE};
 ghost use Rattle.font_theory.specs.Agreement.{both};
@@ -8,14 +8,14 @@ ghost use Rattle.font_theory.specs.Bytes.{padded};
 ghost use Rattle.font_theory.specs.Content.{Content, content, everything};
 ghost use Rattle.font_theory.specs.Cut.{IsCut, content_of_all};
 ghost use Rattle.font_theory.specs.File.{current_writing, file};
-ghost use Rattle.font_theory.specs.Kinds.{font_of, format_of};
+ghost use Rattle.font_theory.specs.Kinds.{format_of, tables_of};
 ghost use Rattle.font_theory.specs.declared.kinds.Kind.{Kind};
 ghost use Rattle.font_theory.specs.declared.kinds.TheConstants.{SEQUENCES as SEQUENCE_SLOT};
 ghost use Rattle.font_write.specs.WholeFile.{IsTooLarge};
 ghost use Rattle.font_join.specs.Union.{HasShortTables, content_in};
-ghost use Rattle.divided_tables.specs.DividedTables.{AreFine};
+ghost use Rattle.divided_tables.specs.DividedTables.{AreFine, AreOpen, keeps_varying};
 ghost use Rattle.font_join.specs.Inside.{IsAddRefusal, IsFormRefusal, add_fault, early_difference};
-ghost use Rattle.font_join.specs.KindInside.{HasFrames, IsGrown, IsOwn, SpellsIn, least_of, parts_told};
+ghost use Rattle.font_join.specs.KindInside.{AreCompared, HasFrames, IsGrown, IsOwn, SpellsIn, least_of, parts_told};
 ghost use Rattle.font_join.specs.declared.join_error.JoinError.TheVariants.{NoMemory as JoinNoMemory};
 ghost use Rattle.font_join.specs.declared.join_error.Which.TheVariants.{First};
 
@@ -31,7 +31,7 @@ use divided_tables::{MadeTables, OpenTables};
 use font_file::Font;
 use font_map::Run;
 use font_subset::{FontOfKind, head};
-use font_theory::{Difference, Kind, SEQUENCES};
+use font_theory::{Difference, Kind};
 use font_write::Source;
 use map_union::UnionMap;
 use sfnt_bytes::{Memory, NoMemory};
@@ -47,6 +47,13 @@ fn least(first: Option<u16>, second: Option<u16>) -> Option<u16>
         (Some(a), Some(b)) => { if b < a { Some(b) } else { Some(a) } }
         (Some(a), None) => Some(a),
     }
+}
+
+// Tells whether cuts of a kind keep what varies in colours.
+fn keeps_varying(kind: Kind) -> bool
+    ensures { result ≡ keeps_varying kind }
+{
+    matches!(kind, Kind::Variable)
 }
 
 // Returns the tables of its own that a union of a kind has of its first file: copies, where the kind divides tables.
@@ -75,7 +82,8 @@ fn frames_for_kind<S: Source, A: Memory + Copy>(
     ensures memory { OnErr result (IsRefused A.refuses) }
 {
     if kind.divides_tables() {
-        return MadeTables::frames(alloc, source);
+        let tables = OpenTables::of(alloc, source)?;
+        return MadeTables::frames(alloc, source, &tables, keeps_varying(kind));
     }
     Ok(MadeTables::none())
 }
@@ -184,100 +192,146 @@ impl<'f, 'a, A: Allocator> Union<'f, 'a, A> {
     }
 }
 
+// What a cut and a union of its kind come to: the first glyph that both keep with other parts, the first table that has
+// no room for the parts of both, and the tables of both that are made anew.
+type Compared<A> = (Option<u16>, Option<usize>, MadeTables<A>);
+
 impl<'f, 'a, A: Memory + Copy> Union<'f, 'a, A> {
-    // Returns the first table or code that tells a cut apart from the union.
-    fn early(&self, alloc: A, file: &Listed<'_, 'a, A>) -> Result<Option<Difference>, NoMemory>
+    // Returns the first table or code that tells a cut, whose tables are open, apart from the union.
+    fn early(
+        &self,
+        alloc: A,
+        file: &Listed<'_, 'a, A>,
+        tables: &OpenTables<'_, A>,
+    ) -> Result<Option<Difference>, NoMemory>
         requires same { file.now.0 ≡ self.now.kind }
         requires form { IsCut (format_of self.now.kind) file.now.1 }
+        requires opened { AreOpen (tables_of file.now.0 file.now.1) tables.now }
         ensures difference { IfOk result (λ found. (K : Content) → SpellsIn self.now.kind (content_in self.now) K →
             found ≡ early_difference K (content_of_all (format_of self.now.kind) file.now.1)) }
         ensures memory { OnErr result (IsRefused A.refuses) }
     {
-        if !self.first.kind().divides_tables() {
+        let kind = self.first.kind();
+        if !kind.divides_tables() {
             return Ok(early_difference(self, &self.map, file));
         }
-        let framed = MadeTables::frames(alloc, file)?;
-        let first = Framed::new(self, &self.framed);
-        let second = Framed::new(file, &framed);
+        let varies = keeps_varying(kind);
+        let framed = MadeTables::frames(alloc, file, tables, varies)?;
+        let first = Framed::new(self, &self.framed, varies);
+        let second = Framed::new(file, &framed, varies);
         Ok(early_difference(&first, &self.map, &second))
     }
 
-    // Returns why a cut is not added, before its glyphs are compared.
-    fn tested(&self, alloc: A, file: &Listed<'_, 'a, A>) -> Result<(), JoinError>
+    // Returns why a cut, whose tables are open, is not added, before its glyphs are compared.
+    fn tested(
+        &self,
+        alloc: A,
+        file: &Listed<'_, 'a, A>,
+        tables: &OpenTables<'_, A>,
+    ) -> Result<(), JoinError>
         requires same { file.now.0 ≡ self.now.kind }
         requires form { IsCut (format_of self.now.kind) file.now.1 }
+        requires opened { AreOpen (tables_of file.now.0 file.now.1) tables.now }
         ensures exact { (K : Content) → SpellsIn self.now.kind (content_in self.now) K → MatchResult result
             (λ _. early_difference K (content_of_all (format_of self.now.kind) file.now.1) ≡ None)
             (IsAddRefusal (format_of self.now.kind) K file.now.1) }
         ensures memory { result ≡ Err JoinNoMemory → IsRefused A.refuses }
     {
         self.first.recall_accepted();
-        match self.early(alloc, file)? {
+        match self.early(alloc, file, tables)? {
             Some(difference) => Err(refusal_of(difference)),
             None => Ok(()),
         }
     }
 
-    // Returns the first glyph that a cut and the union keep with another part in a table that is divided.
-    fn other_parts(&self, alloc: A, file: &Listed<'_, 'a, A>) -> Result<Option<u16>, NoMemory>
+    // Returns the first glyph that a cut and the union, whose tables are open, keep with another part in a table that is
+    // divided.
+    fn other_parts<'t>(
+        &self,
+        file: &Listed<'_, 'a, A>,
+        first: &OpenTables<'t, A>,
+        second: &OpenTables<'t, A>,
+    ) -> Option<u16>
         requires same { file.now.0 ≡ self.now.kind }
         requires form { IsCut (format_of self.now.kind) file.now.1 }
         requires early { (K : Content) → SpellsIn self.now.kind (content_in self.now) K →
             early_difference K (content_of_all (format_of self.now.kind) file.now.1) ≡ None }
-        requires small { HasShortTables self.now }
-        ensures told { IfOk result (λ parts. (K : Content) → SpellsIn self.now.kind (content_in self.now) K →
-            parts ≡ parts_told K (content_of_all (format_of self.now.kind) file.now.1)) }
-        ensures memory { OnErr result (IsRefused A.refuses) }
+        requires opened { AreOpen (content_in self.now).copied first.now }
+        requires other_opened { AreOpen (tables_of file.now.0 file.now.1) second.now }
+        ensures { (K : Content) → SpellsIn self.now.kind (content_in self.now) K →
+            result ≡ parts_told K (content_of_all (format_of self.now.kind) file.now.1) }
     {
         if !self.first.kind().divides_tables() {
-            return Ok(None);
+            return None;
         }
-        let first = OpenTables::of(alloc, self)?;
-        let second = OpenTables::of(alloc, file)?;
-        Ok(different_part(self, file, &first, &second))
+        different_part(self, file, first, second)
     }
 
-    // Returns the first table that has no room for the parts of a cut and the union. It is told where no glyph has two
-    // parts: then two glyphs may still have one selector and code.
-    fn misfit(&self, alloc: A, file: &Listed<'_, 'a, A>) -> Result<Option<u8>, NoMemory>
+    // Returns the first table that has no room for the parts of a cut and the union, whose tables are open. It is told where
+    // no glyph has two parts: then there may still be too many colours, or two glyphs with one selector and code.
+    fn misfit<'t>(
+        &self,
+        file: &Listed<'_, 'a, A>,
+        first: &OpenTables<'t, A>,
+        second: &OpenTables<'t, A>,
+    ) -> Option<usize>
         requires same { file.now.0 ≡ self.now.kind }
         requires form { IsCut (format_of self.now.kind) file.now.1 }
         requires early { (K : Content) → SpellsIn self.now.kind (content_in self.now) K →
             early_difference K (content_of_all (format_of self.now.kind) file.now.1) ≡ None }
-        requires small { HasShortTables self.now }
-        ensures told { IfOk result (λ unfit. (K : Content) → SpellsIn self.now.kind (content_in self.now) K →
+        requires opened { AreOpen (content_in self.now).copied first.now }
+        requires other_opened { AreOpen (tables_of file.now.0 file.now.1) second.now }
+        ensures told { (K : Content) → SpellsIn self.now.kind (content_in self.now) K →
             parts_told K (content_of_all (format_of self.now.kind) file.now.1) ≡ None →
-            unfit ≡ (format_of self.now.kind).misfit (both K (content_of_all (format_of self.now.kind) file.now.1))) }
-        ensures low { IfOk result (λ unfit. IfSome unfit (λ slot. slot ≤ SEQUENCE_SLOT)) }
-        ensures memory { OnErr result (IsRefused A.refuses) }
+            result ≡ (format_of self.now.kind).misfit (both K (content_of_all (format_of self.now.kind) file.now.1)) }
+        ensures low { IfSome result (λ slot. slot ≤ SEQUENCE_SLOT) }
     {
-        if !self.first.kind().keeps_sequences() {
-            return Ok(None);
+        let kind = self.first.kind();
+        if !kind.divides_tables() {
+            return None;
         }
-        let first = OpenTables::of(alloc, self)?;
-        let second = OpenTables::of(alloc, file)?;
-        if first.fits(&second, self, file) {
-            return Ok(None);
-        }
-        Ok(Some(SEQUENCES as u8))
+        first.misfit(second, self, file, keeps_varying(kind))
     }
 
-    // Returns the union with a cut that agrees with it in its tables and its map, or the first glyph in which
-    // it differs, or else the first table that has no room.
-    fn merged(self, alloc: A, file: Listed<'_, 'a, A>) -> Result<Union<'f, 'a, A>, JoinError>
+    // Returns what a cut and the union come to, or the first table or code in which they differ. Each is opened once.
+    fn compared(&self, alloc: A, file: &Listed<'_, 'a, A>) -> Result<Compared<A>, JoinError>
+        requires same { file.now.0 ≡ self.now.kind }
+        requires form { IsCut (format_of self.now.kind) file.now.1 }
+        requires small { HasShortTables self.now }
+        ensures exact { MatchResult result
+            (λ found. AreCompared self.now file.now.1 found.0 found.1 found.2)
+            (λ error. (K : Content) → SpellsIn self.now.kind (content_in self.now) K →
+            IsAddRefusal (format_of self.now.kind) K file.now.1 error) }
+        ensures memory { result ≡ Err JoinNoMemory → IsRefused A.refuses }
+    {
+        let varies = keeps_varying(self.first.kind());
+        let first = OpenTables::of(alloc, self)?;
+        let second = OpenTables::of(alloc, file)?;
+        self.tested(alloc, file, &second)?;
+        let parts = self.other_parts(file, &first, &second);
+        let misfit = self.misfit(file, &first, &second);
+        let made = MadeTables::united(alloc, self, file, &first, &second, varies)?;
+        Ok((parts, misfit, made))
+    }
+
+    // Returns the union with a cut with which it has been compared, or the first glyph in which they differ, or else the
+    // first table that has no room.
+    fn merged(
+        self,
+        alloc: A,
+        file: Listed<'_, 'a, A>,
+        parts: Option<u16>,
+        misfit: Option<usize>,
+        made: MadeTables<A>,
+    ) -> Result<Union<'f, 'a, A>, JoinError>
         requires same { file.0 ≡ self.kind }
         requires form { IsCut (format_of self.kind) file.1 }
-        requires early { (K : Content) → SpellsIn self.kind (content_in self) K →
-            early_difference K (content_of_all (format_of self.kind) file.1) ≡ None }
-        requires small { HasShortTables self }
+        requires compared { AreCompared self file.1 parts misfit made }
         ensures exact { (K : Content) → SpellsIn self.entry.kind (content_in self.entry) K → MatchResult result
             (IsGrown self.entry.kind file.entry.1 K)
             (IsAddRefusal (format_of self.entry.kind) K file.entry.1) }
         ensures memory { result ≡ Err JoinNoMemory → IsRefused A.refuses }
     {
-        let parts = self.other_parts(alloc, &file)?;
-        let misfit = self.misfit(alloc, &file)?;
-        let made = MadeTables::united(alloc, &self, &file)?;
         let count = self.first.font().tables().glyph_count();
         let Union {
             first,
@@ -351,8 +405,8 @@ impl<'f, 'a, A: Memory + Copy> Union<'f, 'a, A> {
     {
         let opened = open_for_kind(alloc, self.first.kind(), font, Which::Second)?;
         let file = Listed::new(alloc, &opened, Which::Second)?;
-        self.tested(alloc, &file)?;
-        self.merged(alloc, file)
+        let (parts, misfit, made) = self.compared(alloc, &file)?;
+        self.merged(alloc, file, parts, misfit, made)
     }
 
     /// Returns the same union, whose file is quick to write.

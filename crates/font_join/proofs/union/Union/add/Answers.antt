@@ -33,16 +33,16 @@ returns-in_err-file-clause-exact g c = λ kind K same h.
     (subst (λ (q : Kind). IsFormRefusal (format_of q) Second c.args.font.now error) (c.kind.ensures.kind
     ∙ ap (λ (v : Held). v.kind) c.self.view_is ∙ same) told))
 
-pub tested-requires-clause-same : goal.tested-requires-clause-same
-tested-requires-clause-same g c = ap (λ (v : Kind × List ℕ). v.0)
+pub compared-requires-clause-same : goal.compared-requires-clause-same
+compared-requires-clause-same g c = ap (λ (v : Kind × List ℕ). v.0)
     (c.in_ok-file.ensures.exact.0 ∙ c.in_ok-opened.ensures.exact)
     ∙ c.kind.ensures.kind ∙ ap (λ (v : Held). v.kind) c.self.view_is
 
-pub tested-requires-clause-form : goal.tested-requires-clause-form
-tested-requires-clause-form g c =
+pub compared-requires-clause-form : goal.compared-requires-clause-form
+compared-requires-clause-form g c =
     let form = subst (λ (v : Kind × List ℕ). IsCut (format_of v.0) v.1) (sym c.in_ok-file.ensures.exact.0)
     c.in_ok-file.ensures.exact.1 in
-    subst (λ (q : Kind). IsCut (format_of q) c.in_ok-file.file.1) (tested-requires-clause-same g c) form
+    subst (λ (q : Kind). IsCut (format_of q) c.in_ok-file.file.1) (compared-requires-clause-same g c) form
 
 pub merged-requires-clause-same : goal.merged-requires-clause-same
 merged-requires-clause-same g c = ap (λ (v : Kind × List ℕ). v.0)
@@ -55,16 +55,16 @@ merged-requires-clause-form g c =
     c.in_ok-file.ensures.exact.1 in
     subst (λ (q : Kind). IsCut (format_of q) c.in_ok-file.file.1) (merged-requires-clause-same g c) form
 
-pub returns-in_err-tested-clause-exact : goal.returns-in_err-tested-clause-exact
-returns-in_err-tested-clause-exact g c = λ kind K same h.
-    let error = c.in_err-tested.field-0.0 in
+pub returns-in_err-parts-clause-exact : goal.returns-in_err-parts-clause-exact
+returns-in_err-parts-clause-exact g c = λ kind K same h.
+    let error = c.in_err-parts.field-0.0 in
     let spells : SpellsIn c.args.self.kind (content_in c.args.self) K =
     subst (λ (q : Kind). SpellsIn q (content_in c.args.self) K) (sym same) h in
     let file = c.in_ok-file.ensures.exact.0 ∙ c.in_ok-opened.ensures.exact in
-    passed_on _ _ c.from_residual-in_err-tested.result _ c.from_residual-in_err-tested.ensures.1
+    passed_on _ _ c.from_residual-in_err-parts.result _ c.from_residual-in_err-parts.ensures.1
     (subst (λ (q : Kind). IsAddRefusal (format_of q) K c.args.font.now error) same
     (subst (λ (v : Kind × List ℕ). IsAddRefusal (format_of c.args.self.kind) K v.1 error) file
-    (c.in_err-tested.ensures.exact K spells)))
+    (c.in_err-parts.ensures.exact K spells)))
 
 pub returns-clause-exact : goal.returns-clause-exact
 returns-clause-exact g c = λ kind K same h.

@@ -1,58 +1,30 @@
-use Rattle.std.proofs.Common.{◌≡◌, ℕ, List, Some, sym, ap, ◌∙◌, subst}
+use Rattle.std.proofs.Common.{◌≡◌, ℕ, List, None, Some, sym, ap, ◌∙◌, subst}
 use Rattle.std.specs.Option.{option_map}
 use Rattle.codes.specs.CharacterMap.{AreCompatible, united}
 use Rattle.font_tables.specs.Fields.{glyph_count_of}
-use Rattle.font_theory.specs.Content.{Content, content, everything, glyph_count}
+use Rattle.font_theory.specs.Content.{Content}
 use Rattle.font_theory.specs.Cut.{IsCut, content_of_all}
 use Rattle.font_theory.specs.Agreement.{Agree}
-use Rattle.font_theory.specs.Kinds.{font_of, format_of, tables_of}
+use Rattle.font_theory.specs.Kinds.{format_of}
 use Rattle.font_theory.specs.declared.kinds.Kind.{Kind}
 use Rattle.font_theory.specs.declared.Difference.TheVariants.{AtGlyph}
 use Rattle.font_theory.proofs.CutLemmas.{is_cut-of}
 use Rattle.font_theory.proofs.KindLemmas.{kind_is}
 use Rattle.map_union.specs.RunLists.{map_in}
 use Rattle.font_join.specs.Inside.{IsAddRefusal}
-use Rattle.divided_tables.specs.DividedTables.{AreFine}
-use Rattle.font_join.specs.KindInside.{IsGrown, SpellsIn}
-use Rattle.font_join.specs.Union.{HasShortTables, Held, content_in}
+use Rattle.font_join.specs.KindInside.{IsGrown, SpellsIn, least_of}
+use Rattle.font_join.specs.Union.{Held, content_in}
 use Rattle.font_join.specs.declared.join_error.JoinError.TheVariants.{NoMemory}
 use Rattle.font_join.specs.declared.join_error.Which.TheVariants.{Second}
 use Rattle.font_join.proofs.JoinLemmas.{form_whole}
 use Rattle.font_join.proofs.AddFaultLemmas.{late, late_memory, late_none, late_refused}
-use Rattle.font_join.proofs.MergeLemmas.{agree_of, compatible, count_early, fine_file, fine_union, form_of, grown_of}
-use Rattle.font_join.proofs.MergeLemmas.{misfit_of_union, spells_file, told_of, union_of_all}
-use Rattle.font_join.proofs.ToldLemmas.{least_parts}
+use Rattle.font_join.proofs.MergeLemmas.{agree_of, compatible, form_of, grown_of, misfit_of, told_of, union_of_all}
 use Rattle.font_subset.proofs.CutLemmas.{passed_on}
 use Rattle.font_join.proofs.union.Union.merged.Goals as goal
 
 pub take-other-requires-clause-form : goal.take-other-requires-clause-form
 take-other-requires-clause-form g c = subst (λ (k : Kind). IsCut (format_of k) c.args.file.1) (sym c.requires.same)
     c.requires.form
-
-pub united-requires-clause-first : goal.united-requires-clause-first
-united-requires-clause-first g c =
-    subst (λ (v : Held). HasShortTables v
-    → AreFine (content_in v).copied) c.self.view_is
-    (fine_union c.self.inside.first.0 _ c.self.invariant.whole c.self.invariant.spells) c.requires.small
-
-pub united-requires-clause-second : goal.united-requires-clause-second
-united-requires-clause-second g c = fine_file c.args.file.0 c.args.file.1
-    (subst (λ (k : Kind). IsCut (format_of k) c.args.file.1) (sym c.requires.same) c.requires.form)
-
-pub united-requires-clause-count : goal.united-requires-clause-count
-united-requires-clause-count g c =
-    let v : Held = c.args.self in
-    let y : List ℕ = c.args.file.1 in
-    let K : Content = c.self.invariant.whole in
-    let spells : SpellsIn v.kind (content_in v) K =
-    subst (λ (w : Held). SpellsIn w.kind (content_in w) K) c.self.view_is c.self.invariant.spells in
-    count_early v.kind (content_in v) (content (font_of v.kind y) everything) K (content_of_all (format_of v.kind) y)
-    spells (spells_file v.kind y c.requires.form) (c.requires.early K spells)
-    ∙ ap (λ (k : Kind). glyph_count (tables_of k y)) (sym c.requires.same)
-
-pub returns-in_err-made-clause-exact : goal.returns-in_err-made-clause-exact
-returns-in_err-made-clause-exact g c = λ K spells. passed_on _ _ c.from_residual-in_err-made.result NoMemory
-    c.from_residual-in_err-made.ensures.1 tt
 
 -- a glyph that differs, or else a table that has no room
 pub returns-in-Some-clause-exact : goal.returns-in-Some-clause-exact
@@ -65,28 +37,30 @@ returns-in-Some-clause-exact g c = subst (λ (v : Held). (K : Content) → Spell
       outlines = c.self.inside.outlines;
       own = c.self.inside.own;
     } in
-    let form : IsCut (format_of u.kind) c.args.file.1 = form_of u c.args.self c.self.view_is c.args.file.0
-    c.requires.same c.args.file.1 c.requires.form
-    c.requires.early c.glyph_count-count.result
+    let form : IsCut (format_of u.kind) c.args.file.1 =
+    form_of u c.args.self c.self.view_is c.args.file.0 c.requires.same c.args.file.1 c.requires.form
+    c.args.parts c.args.misfit c.args.made c.requires.compared c.glyph_count-count.result
     (c.glyph_count-count.ensures.count ∙ ap glyph_count_of (c.tables.ensures.tables ∙ c.font.ensures.font))
-    c.take-other.result c.in_ok-parts.parts c.take-other.ensures.differs c.in_ok-parts.ensures.told K spells in
+    c.take-other.result c.take-other.ensures.differs K spells in
     let told = told_of u c.args.self c.self.view_is c.args.file.0 c.requires.same c.args.file.1 c.requires.form
-    c.requires.early c.glyph_count-count.result
+    c.args.parts c.args.misfit c.args.made c.requires.compared c.glyph_count-count.result
     (c.glyph_count-count.ensures.count ∙ ap glyph_count_of (c.tables.ensures.tables ∙ c.font.ensures.font))
-    c.take-other.result c.in_ok-parts.parts c.take-other.ensures.differs c.in_ok-parts.ensures.told K spells in
-    late_refused (format_of u.kind) K c.args.file.1 c.least.result c.in_ok-misfit.misfit c.in-Some.error
+    c.take-other.result c.take-other.ensures.differs K spells in
+    late_refused (format_of u.kind) K c.args.file.1 c.least.result c.args.misfit c.in-Some.error
     (late (format_of u.kind) K c.args.file.1 (form_whole (format_of u.kind) Second c.args.file.1 form.accepted
-    (is_cut-of (format_of u.kind) (kind_is u.kind).law c.args.file.1 form)) c.least.result c.in_ok-misfit.misfit
+    (is_cut-of (format_of u.kind) (kind_is u.kind).law c.args.file.1 form)) c.least.result c.args.misfit
     (told ∙ ap (option_map AtGlyph) (sym c.least.ensures))
-    (λ none. misfit_of_union u c.args.self c.self.view_is c.args.file.1 c.in_ok-misfit.misfit c.in_ok-parts.parts
-    c.in_ok-parts.ensures.told c.in_ok-misfit.ensures.told K spells
-    (least_parts c.in_ok-parts.parts c.take-other.result (sym c.least.ensures ∙ none))))
+    (λ none. misfit_of u c.args.self c.self.view_is c.args.file.0 c.requires.same c.args.file.1 c.requires.form
+    c.args.parts c.args.misfit c.args.made c.requires.compared c.glyph_count-count.result
+    (c.glyph_count-count.ensures.count ∙ ap glyph_count_of (c.tables.ensures.tables ∙ c.font.ensures.font))
+    c.take-other.result c.take-other.ensures.differs K spells
+    (sym c.least.ensures ∙ none)))
     (sym c.late_refusal.ensures ∙ c.in-Some.is))
 
 pub returns-in-Some-clause-memory : goal.returns-in-Some-clause-memory
 returns-in-Some-clause-memory g c = λ e.
     let same : c.in-Some.error ≡ NoMemory = cc in
-    absurd (late_memory c.least.result c.in_ok-misfit.misfit
+    absurd (late_memory c.least.result c.args.misfit
     (sym c.late_refusal.ensures ∙ c.in-Some.is ∙ ap Some same))
 
 pub with-requires-clause-agree : goal.with-requires-clause-agree
@@ -100,18 +74,18 @@ with-requires-clause-agree g c =
     } in
     let K : Content = c.self.invariant.whole in
     let spells : SpellsIn u.kind (content_in u) K = c.self.invariant.spells in
-    let form : IsCut (format_of u.kind) c.args.file.1 = form_of u c.args.self c.self.view_is c.args.file.0
-    c.requires.same c.args.file.1 c.requires.form
-    c.requires.early c.glyph_count-count.result
+    let form : IsCut (format_of u.kind) c.args.file.1 =
+    form_of u c.args.self c.self.view_is c.args.file.0 c.requires.same c.args.file.1 c.requires.form
+    c.args.parts c.args.misfit c.args.made c.requires.compared c.glyph_count-count.result
     (c.glyph_count-count.ensures.count ∙ ap glyph_count_of (c.tables.ensures.tables ∙ c.font.ensures.font))
-    c.take-other.result c.in_ok-parts.parts c.take-other.ensures.differs c.in_ok-parts.ensures.told K spells in
-    let agree : Agree K (content_of_all (format_of u.kind) c.args.file.1) = agree_of u c.args.self c.self.view_is
-    c.args.file.0 c.requires.same c.args.file.1 c.requires.form
-    c.requires.early c.glyph_count-count.result
+    c.take-other.result c.take-other.ensures.differs K spells in
+    let agree : Agree K (content_of_all (format_of u.kind) c.args.file.1) =
+    agree_of u c.args.self c.self.view_is c.args.file.0 c.requires.same c.args.file.1 c.requires.form
+    c.args.parts c.args.misfit c.args.made c.requires.compared c.glyph_count-count.result
     (c.glyph_count-count.ensures.count ∙ ap glyph_count_of (c.tables.ensures.tables ∙ c.font.ensures.font))
-    c.take-other.result c.in_ok-parts.parts c.take-other.ensures.differs c.in_ok-parts.ensures.told K spells
-    (sym c.least.ensures ∙ (late_none c.least.result c.in_ok-misfit.misfit (sym c.late_refusal.ensures
-    ∙ c.in_default.is)).0) in
+    c.take-other.result c.take-other.ensures.differs K spells
+    (sym c.least.ensures
+    ∙ (late_none c.least.result c.args.misfit (sym c.late_refusal.ensures ∙ c.in_default.is)).0) in
     subst (λ (m : ℕ → ℕ). AreCompatible (map_in u.runs) m) (sym c.in_ok-runs.ensures.runs.spelled_map)
     (compatible u c.args.file.1 K spells form agree)
 
@@ -124,18 +98,18 @@ invariant_of-result g c =
       outlines = c.self.inside.outlines;
       own = c.self.inside.own;
     } in
+    let end : (c.least.result ≡ None) × (c.args.misfit ≡ None) =
+    late_none c.least.result c.args.misfit (sym c.late_refusal.ensures ∙ c.in_default.is) in
+    let none : (least_of c.args.parts c.take-other.result ≡ None) × (c.args.misfit ≡ None) =
+    (sym c.least.ensures ∙ end.0, end.1) in
     union_of_all u c.args.self c.self.view_is c.args.file.0 c.requires.same c.args.file.1 c.requires.form
-    c.requires.early c.glyph_count-count.result
+    c.args.parts c.args.misfit c.args.made c.requires.compared c.glyph_count-count.result
     (c.glyph_count-count.ensures.count ∙ ap glyph_count_of (c.tables.ensures.tables ∙ c.font.ensures.font))
-    c.take-other.result c.in_ok-parts.parts c.take-other.ensures.differs c.in_ok-parts.ensures.told
-    (sym c.least.ensures ∙ (late_none c.least.result c.in_ok-misfit.misfit (sym c.late_refusal.ensures
-    ∙ c.in_default.is)).0) c.in_ok-misfit.misfit c.in_ok-misfit.ensures.told
-    (late_none c.least.result c.in_ok-misfit.misfit (sym c.late_refusal.ensures ∙ c.in_default.is)).1
-    c.in_ok-map.map c.take-other.new.self c.laid_over-own.result
-    c.in_ok-made.made c.self.invariant.count c.take-other.ensures.taken
+    c.take-other.result c.take-other.ensures.differs
+    none c.in_ok-map.map c.take-other.new.self c.laid_over-own.result c.self.invariant.count c.take-other.ensures.taken
     (c.in_ok-map.ensures.map ∙ ap (united (map_in u.runs)) c.in_ok-runs.ensures.runs.spelled_map)
-    c.in_ok-made.ensures.tables
-    c.laid_over-own.ensures c.self.invariant.whole c.self.invariant.spells c.self.inside.framed c.self.invariant
+    c.laid_over-own.ensures
+    c.self.invariant.whole c.self.invariant.spells c.self.inside.framed c.self.invariant
 
 pub returns-clause-exact : goal.returns-clause-exact
 returns-clause-exact g c = subst (λ (v : Held). (K : Content) → SpellsIn v.kind (content_in v) K
@@ -153,31 +127,22 @@ returns-clause-exact g c = subst (λ (v : Held). (K : Content) → SpellsIn v.ki
       outlines = c.self.inside.outlines;
       own = c.self.inside.own;
     } in
+    let end : (c.least.result ≡ None) × (c.args.misfit ≡ None) =
+    late_none c.least.result c.args.misfit (sym c.late_refusal.ensures ∙ c.in_default.is) in
+    let none : (least_of c.args.parts c.take-other.result ≡ None) × (c.args.misfit ≡ None) =
+    (sym c.least.ensures ∙ end.0, end.1) in
     grown_of u c.args.self c.self.view_is c.args.file.0 c.requires.same c.args.file.1 c.requires.form
-    c.requires.early c.glyph_count-count.result
+    c.args.parts c.args.misfit c.args.made c.requires.compared c.glyph_count-count.result
     (c.glyph_count-count.ensures.count ∙ ap glyph_count_of (c.tables.ensures.tables ∙ c.font.ensures.font))
-    c.take-other.result c.in_ok-parts.parts c.take-other.ensures.differs c.in_ok-parts.ensures.told
-    (sym c.least.ensures ∙ (late_none c.least.result c.in_ok-misfit.misfit (sym c.late_refusal.ensures
-    ∙ c.in_default.is)).0) c.in_ok-misfit.misfit c.in_ok-misfit.ensures.told
-    (late_none c.least.result c.in_ok-misfit.misfit (sym c.late_refusal.ensures ∙ c.in_default.is)).1
-    c.in_ok-map.map c.take-other.new.self c.laid_over-own.result
-    c.in_ok-made.made c.self.invariant.count c.take-other.ensures.taken
+    c.take-other.result c.take-other.ensures.differs
+    none c.in_ok-map.map c.take-other.new.self c.laid_over-own.result c.self.invariant.count c.take-other.ensures.taken
     (c.in_ok-map.ensures.map ∙ ap (united (map_in u.runs)) c.in_ok-runs.ensures.runs.spelled_map)
-    c.in_ok-made.ensures.tables
     c.laid_over-own.ensures K spells)
 
 pub returns-in_err-runs-clause-exact : goal.returns-in_err-runs-clause-exact
-returns-in_err-runs-clause-exact g c = λ K spells. passed_on _ _ c.from_residual-in_err-runs.result NoMemory
-    c.from_residual-in_err-runs.ensures.1 tt
+returns-in_err-runs-clause-exact g c = λ K spells. passed_on _ _ c.from_residual.result NoMemory
+    c.from_residual.ensures.1 tt
 
 pub returns-in_err-map-clause-exact : goal.returns-in_err-map-clause-exact
 returns-in_err-map-clause-exact g c = λ K spells. passed_on _ _ c.from_residual-in_err-map.result NoMemory
     c.from_residual-in_err-map.ensures.1 tt
-
-pub returns-in_err-parts-clause-exact : goal.returns-in_err-parts-clause-exact
-returns-in_err-parts-clause-exact g c = λ K spells. passed_on _ _ c.from_residual.result NoMemory
-    c.from_residual.ensures.1 tt
-
-pub returns-in_err-misfit-clause-exact : goal.returns-in_err-misfit-clause-exact
-returns-in_err-misfit-clause-exact g c = λ K spells. passed_on _ _ c.from_residual-in_err-misfit.result NoMemory
-    c.from_residual-in_err-misfit.ensures.1 tt

@@ -8,53 +8,42 @@ use Rattle.divided_tables.specs.DividedTables.{AreFine, AreOpen}
 use Rattle.divided_tables.proofs.OpenLemmas.{count_open}
 use Rattle.font_join.specs.KindInside.{SpellsIn, has_others}
 use Rattle.font_join.specs.Union.{HasShortTables, Held, content_in}
-use Rattle.font_join.proofs.MergeLemmas.{count_early, fine_file, fine_union, is_divided, spells_file}
+use Rattle.font_join.proofs.MergeLemmas.{count_both, is_divided, spells_file}
 use Rattle.font_join.proofs.ToldLemmas.{parts_found, parts_none}
 use Rattle.font_join.proofs.union.Union.other_parts.Goals as goal
 
-pub of-requires : goal.of-requires
-of-requires g c =
-    subst (λ (v : Held). HasShortTables v → AreFine (content_in v).copied) c.self.view_is
-    (fine_union c.self.inside.first.0 _ c.self.invariant.whole c.self.invariant.spells) c.requires.small
-
-pub of-requires-2 : goal.of-requires-2
-of-requires-2 g c = fine_file c.args.file.now.0 c.args.file.now.1
-    (subst (λ (k : Kind). IsCut (format_of k) c.args.file.now.1) (sym c.requires.same) c.requires.form)
-
 pub different_part-requires-clause-second : goal.different_part-requires-clause-second
 different_part-requires-clause-second g c =
-    count_open (tables_of c.args.file.now.0 c.args.file.now.1) c.in_ok-second.second c.in_ok-second.ensures.opened
+    count_open (tables_of c.args.file.now.0 c.args.file.now.1) c.args.second.now c.requires.other_opened
 
 pub different_part-requires-clause-first : goal.different_part-requires-clause-first
 different_part-requires-clause-first g c =
     let v : Held = c.args.self.now in
-    let y : List ℕ = c.args.file.now.1 in
     let K : Content = c.self.invariant.whole in
     let spells : SpellsIn v.kind (content_in v) K =
     subst (λ (w : Held). SpellsIn w.kind (content_in w) K) c.self.view_is c.self.invariant.spells in
-    count_open (content_in v).copied c.in_ok-first.first c.in_ok-first.ensures.opened
-    ∙ count_early v.kind (content_in v) (content (font_of v.kind y) everything) K (content_of_all (format_of v.kind) y)
-    spells (spells_file v.kind y c.requires.form) (c.requires.early K spells)
-    ∙ ap (λ (k : Kind). glyph_count (tables_of k y)) (sym c.requires.same)
+    count_open (content_in v).copied c.args.first.now c.requires.opened
+    ∙ count_both v c.args.file.now.0 c.args.file.now.1 c.requires.same c.requires.form K spells
+    (c.requires.early K spells)
 
-pub returns-then-not-divides_tables-clause-told : goal.returns-then-not-divides_tables-clause-told
-returns-then-not-divides_tables-clause-told g c = λ K spells.
+pub returns-then-not-divides_tables : goal.returns-then-not-divides_tables
+returns-then-not-divides_tables g c = λ K spells.
     let v : Held = c.args.self.now in
     let none : divides_tables v.kind ≡ false =
     is_divided _ v c.self.view_is c.kind.result false c.kind.ensures.kind c.if-not-divides_tables.ensures in
     parts_none v.kind none (content_in v) (content (font_of v.kind c.args.file.now.1) everything) K
     (content_of_all (format_of v.kind) c.args.file.now.1) spells (spells_file v.kind c.args.file.now.1 c.requires.form)
 
-pub returns-clause-told : goal.returns-clause-told
-returns-clause-told g c = λ K spells.
+pub returns : goal.returns
+returns g c = λ K spells.
     let v : Held = c.args.self.now in
     let y : List ℕ = c.args.file.now.1 in
     let some : divides_tables v.kind ≡ true =
     is_divided _ v c.self.view_is c.kind.result true c.kind.ensures.kind (c.if-not-divides_tables.ensures) in
     c.different_part.ensures
-    ∙ ap (λ (k : Kind). find (has_others (content_in v) (content (font_of k y) everything) c.in_ok-first.first
-    c.in_ok-second.second) (range_with_len 0 (glyph_count (content_in v).copied))) c.requires.same
+    ∙ ap (λ (k : Kind). find (has_others (content_in v) (content (font_of k y) everything) c.args.first.now
+    c.args.second.now) (range_with_len 0 (glyph_count (content_in v).copied))) c.requires.same
     ∙ parts_found v.kind some (content_in v) (content (font_of v.kind y) everything) K (content_of_all (format_of
     v.kind) y)
-    spells (spells_file v.kind y c.requires.form) c.in_ok-first.first c.in_ok-second.second c.in_ok-first.ensures.opened
-    (subst (λ (k : Kind). AreOpen (tables_of k y) c.in_ok-second.second) c.requires.same c.in_ok-second.ensures.opened)
+    spells (spells_file v.kind y c.requires.form) c.args.first.now c.args.second.now c.requires.opened
+    (subst (λ (k : Kind). AreOpen (tables_of k y) c.args.second.now) c.requires.same c.requires.other_opened)
